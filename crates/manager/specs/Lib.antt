@@ -1,0 +1,5 @@
+pub mod Answers
+pub mod Effects
+pub mod Laws
+pub mod Meaning
+pub mod Refusals

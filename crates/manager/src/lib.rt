@@ -1,0 +1,5 @@
+// What a mutual-exclusion manager is, whatever algorithm it runs: the statuses of its sites, the refusals of its
+// calls, and the interface with its laws.
+pub mod interface;
+pub mod refusal;
+pub mod status;
