@@ -1,0 +1,38 @@
+-- The laws of sums over a square table.
+use mathlib.Core.Path.{_≡_, refl, sym, ap, _∙_}
+use mathlib.Core.Bool.{Bool, true, false, cond, _&&_}
+use mathlib.Core.Logic.{_⊎_, inl, inr}
+use Prim.Native.Nat.{ℕ, _+_, _≤_, _<_}
+use native.Mathlib.Omega.{arith}
+use lib.Dec.{eqb}
+use Rattle.std.proofs.shelf.Tests.{eq-eqb, ne-eqb, cond-true, cond-false, and-left, and-right, and-from, cases-eq}
+use Rattle.counting.specs.Sums.{sum}
+use Rattle.counting.specs.Tables.{row, total, before, upd2}
+use Rattle.counting.proofs.Sums.{sum-ext, sum-change, sum-at}
+
+pub upd2-same : {A : Type 0} (f : ℕ → ℕ → A) (i j : ℕ) (v : A) → upd2 f i j v i j ≡ v
+upd2-same f i j v = cond-true (eqb i i && eqb j j) v (f i j) (and-from (eqb i i) (eqb j j) (eq-eqb i i refl) (eq-eqb j j refl))
+
+pub upd2-row : {A : Type 0} (f : ℕ → ℕ → A) (i j : ℕ) (v : A) (a b : ℕ) → (a ≡ i → ⊥) → upd2 f i j v a b ≡ f a b
+upd2-row f i j v a b ne = cond-false (eqb a i && eqb b j) v (f a b) (and-left (eqb a i) (eqb b j) (ne-eqb a i ne))
+
+pub upd2-column : {A : Type 0} (f : ℕ → ℕ → A) (i j : ℕ) (v : A) (a b : ℕ) → (b ≡ j → ⊥) → upd2 f i j v a b ≡ f a b
+upd2-column f i j v a b ne = cond-false (eqb a i && eqb b j) v (f a b) (and-right (eqb a i) (eqb b j) (ne-eqb b j ne))
+
+module _ (f g : ℕ → ℕ → ℕ) (n i : ℕ) (within : i < n) where
+  -- Two tables that differ at most in row i.
+  pub total-row-change : ((a b : ℕ) → a < n → b < n → (a ≡ i → ⊥) → g a b ≡ f a b) → total g n + row f n i ≡ total f n + row g n i
+  total-row-change e =
+      sum-change (row f n) (row g n) n i within (λ a h ne. sum-ext (g a) (f a) n (λ b k. e a b h k ne))
+
+  -- Two tables that differ at most at (i, j).
+  pub total-change : (j : ℕ) → j < n → ((a b : ℕ) → a < n → b < n → (a ≡ i → ⊥) → g a b ≡ f a b) → ((b : ℕ) → b < n → (b ≡ j → ⊥) → g i b ≡ f i b) → total g n + f i j ≡ total f n + g i j
+  total-change j h rows columns =
+      let outer : total g n + row f n i ≡ total f n + row g n i = total-row-change rows in
+      let inner : row g n i + f i j ≡ row f n i + g i j = sum-change (f i) (g i) n j h columns in
+      omega arith
+
+-- A cell and all before it are within the total.
+pub before-at : (f : ℕ → ℕ → ℕ) (n i j : ℕ) → i < n → j < n → before f n i j + f i j ≤ total f n
+before-at f n i j hi hj =
+    omega (arith, sum-at (row f n) n i hi, sum-at (f i) n j hj)
