@@ -1,0 +1,100 @@
+-- Every history keeps the promise: the induction over its calls.
+use mathlib.Core.Path.{_≡_, refl, sym, ap, _∙_}
+use mathlib.Core.Bool.{Bool, true, false, cond}
+use mathlib.Core.Logic.{_⊎_, inl, inr}
+use Prim.Native.Nat.{ℕ, zero, suc, _+_, _*_, _≤_, _<_}
+use native.Mathlib.Omega.{arith}
+use native.Mathlib.Nat.{mul-one, mul-add}
+use Rattle.std.specs.declared.option.Option.{Option}
+use Rattle.std.specs.declared.option.Option.the-variants.{Some, None}
+use Rattle.std.specs.declared.result.Result.{Result}
+use Rattle.std.specs.declared.result.Result.the-variants.{Ok, Err}
+use Rattle.std.proofs.shelf.Tests.{cases-lt, cases-eq, leb-false}
+use lib.Dec.{leb}
+use Rattle.manager.specs.Answers.{answer, first, status-shown, holder-shown}
+use Rattle.manager.specs.Laws.{Lawful}
+use Rattle.manager.specs.Meaning.{Meaning, is-holding}
+use Rattle.manager.specs.Refusals.{refused, site-order}
+use Rattle.manager.specs.declared.refusal.Refusal.{Refusal}
+use Rattle.manager.specs.declared.refusal.Refusal.the-variants.{NoSite}
+use Rattle.manager.specs.declared.status.Status.{Status}
+use Rattle.manager.specs.declared.status.Status.the-variants.{Idle, Waiting, Holding}
+use Rattle.history.specs.Calls.{Done, done, _and_, Does}
+use Rattle.history.specs.Histories.{History}
+use Rattle.history.specs.Histories.History.{begin, then}
+use Rattle.history.specs.Promise.{Kept, EveryHistory}
+use Rattle.history.specs.Records.{Kind, Records, Well, under}
+use Rattle.history.proofs.Along.{Obeys, Moved, moves}
+
+-- What is shown of a site's status is its status, and the site is one.
+pub shown-status : (m : Meaning) (i : ℕ) (st : Status) → status-shown m i ≡ Ok st → (i < m .sites) × (m .status i ≡ st)
+shown-status m i st e = go (leb (m .sites) i) refl e
+  where
+    go : (b : Bool) → leb (m .sites) i ≡ b → answer (cond b (Some NoSite) None) (m .status i) ≡ Ok st → (i < m .sites) × (m .status i ≡ st)
+    go true p e = absurd (let z : _≡_ {A = ℕ} 0 1 = cc in omega arith)
+    go false p e = (leb-false (m .sites) i p, cc)
+
+-- Where the first number that passes is none, no number passes.
+pub first-none : (test : ℕ → Bool) (n i : ℕ) → first test n ≡ None → i < n → test i ≡ false
+first-none test zero i e h = absurd (omega arith)
+first-none test (suc n) i e h = go (first test n) (test n) refl refl e (cases-eq i n) (λ p b. first-none test n i p b)
+  where
+    go : (o : Option ℕ) (b : Bool) → first test n ≡ o → test n ≡ b → _≡_ {A = Option ℕ} (elim o [ Some k ↦ Some k | None ↦ cond b (Some n) None ]) None → (i ≡ n) ⊎ (i ≡ n → ⊥) → (first test n ≡ None → i < n → test i ≡ false) → test i ≡ false
+    go (Some k) b p q e c before = absurd (let z : _≡_ {A = ℕ} 0 1 = cc in omega arith)
+    go None true p q e c before = absurd (let z : _≡_ {A = ℕ} 0 1 = cc in omega arith)
+    go None false p q e (inl same) before = ap test same ∙ q
+    go None false p q e (inr other) before = before p (omega arith)
+
+module _ {S : Type 0} (kind : Kind S) (laws : Obeys kind) (a : Records S) where
+  -- What the induction carries along.
+  record Along (d : Done) (b : Records S) : Type 0 where
+    well : Well kind b
+    toll : under kind b .toll ≡ under kind a .toll
+    asks-total : b .asks ≡ d .asks
+    frees-total : b .frees ≡ d .frees
+    steps-total : b .steps ≡ d .steps
+    bound : d .steps + under kind b .work ≤ under kind a .toll * (d .asks + d .frees + 1)
+
+  further : (d e : Done) (b c : Records S) → Along d b → Moved kind b e c → Along (d and e) c
+  further d e b c h m =
+      let more : under kind a .toll * ((d .asks + d .frees + 1) + (e .asks + e .frees)) ≡ under kind a .toll * (d .asks + d .frees + 1) + under kind a .toll * (e .asks + e .frees) = mul-add (under kind a .toll) (d .asks + d .frees + 1) (e .asks + e .frees) in
+      let same : under kind b .toll * (e .asks + e .frees) ≡ under kind a .toll * (e .asks + e .frees) = ap (λ (t : ℕ). t * (e .asks + e .frees)) (h .toll) in
+      let regroup : (d .asks + e .asks) + (d .frees + e .frees) + 1 ≡ (d .asks + d .frees + 1) + (e .asks + e .frees) = omega arith in
+      let product : under kind a .toll * ((d .asks + e .asks) + (d .frees + e .frees) + 1) ≡ under kind a .toll * ((d .asks + d .frees + 1) + (e .asks + e .frees)) = ap (λ (t : ℕ). under kind a .toll * t) regroup in
+      record {
+        well = m .well;
+        toll = m .toll ∙ h .toll;
+        asks-total = omega (arith, m .asks-more, h .asks-total);
+        frees-total = omega (arith, m .frees-more, h .frees-total);
+        steps-total = omega (arith, m .steps-more, h .steps-total);
+        bound = omega (arith, m .work, h .bound, more, same, product);
+      }
+
+  along : {d : Done} {b : Records S} → Along (done 0 0 0) a → History kind a d b → Along d b
+  along h begin = h
+  along h (then {d} {e} {b} {c} call before does) =
+      let here = along h before in further d e b c here (moves kind laws (here .well) does)
+
+  kept : (d : Done) (b : Records S) → Along d b → Kept kind a d b
+  kept d b h =
+      let law = laws .lawful (b .manager) (h .well .sound) in
+      record {
+        exclusive = λ i j p q. let x = shown-status (under kind b) i Holding p in let y = shown-status (under kind b) j Holding q in law .exclusive i j (x .0) (y .0) (x .1) (y .1);
+        served = λ i p none. ⊎-pos (under kind b .underway) (λ quiet. let x = shown-status (under kind b) i Waiting p in let s = law .served i (x .0) (x .1) quiet in nobody (under kind b) (s .0) none (s .1) (s .2));
+        few-steps = omega (arith, h .bound);
+        asks-total = h .asks-total;
+        frees-total = h .frees-total;
+        steps-total = h .steps-total;
+      }
+    where
+      ⊎-pos : (n : ℕ) → (n ≡ 0 → ⊥) → 0 < n
+      ⊎-pos n ne = omega arith
+      nobody : (m : Meaning) (i : ℕ) → holder-shown m ≡ None → i < m .sites → m .status i ≡ Holding → ⊥
+      nobody m i none within holds =
+          let free = first-none (λ k. is-holding (m .status k)) (m .sites) i none within in
+          let z : _≡_ {A = ℕ} 0 1 = cc (ap is-holding holds) in omega arith
+
+  -- A broker that is well, with its totals at 0 and no more work than its toll, as parking leaves it.
+  pub every-history : Well kind a → a .asks ≡ 0 → a .frees ≡ 0 → a .steps ≡ 0 → under kind a .work ≤ under kind a .toll → EveryHistory kind a
+  every-history w p q r small d b history =
+      kept d b (along (record { well = w; toll = refl; asks-total = p; frees-total = q; steps-total = r; bound = omega (arith, mul-one (under kind a .toll)) }) history)

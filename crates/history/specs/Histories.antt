@@ -1,0 +1,12 @@
+-- Histories: what any calls, in any order and with any arguments, come to. Assumes nothing.
+use mathlib.Core.List.{List}
+use Prim.Native.Nat.{ℕ}
+use Rattle.history.specs.Calls.{Call, Done, done, _and_, Does}
+use Rattle.history.specs.Records.{Kind, Records}
+use Rattle.history.specs.declared.Grant.{Grant}
+
+module _ {S : Type 0} (kind : Kind S) where
+  -- From one state of a broker to another by any number of calls, with the count of what they carried out.
+  pub data History (a : Records S) : Done → Records S → Type 0 where
+    begin : History a (done 0 0 0) a
+    then : {d e : Done} {b c : Records S} {gs : List Grant} (call : Call) → History a d b → Does kind b call e gs c → History a (d and e) c
