@@ -43,7 +43,11 @@ impl<'a, T: Copy> Roll<'a, T> {
     pub fn get(&self, place: usize) -> Option<T>
         ensures { λ r. ⌜ r ≡ nth (written (now (self .entry))) place ⌝ }
     {
-        if place < self.len { self.items.get(place).copied() } else { None }
+        if place < self.len {
+            self.items.get(place).copied()
+        } else {
+            None
+        }
     }
 
     // Adds an element at the end. A full roll refuses, and stays as it is.
@@ -80,8 +84,9 @@ impl<'a, T: Copy + TellsSite> Roll<'a, T> {
         ensures { λ r. ⌜ r ≡ tellers (T·TellsSite .told) (written (now (self .entry))) site ⌝ }
     {
         let mut found = 0;
-        for place in 0..self.len {
-            if self.items[place].site() == site {
+        let items = &*self.items;
+        for item in &items[0..self.len] {
+            if item.site() == site {
                 found += 1;
             }
         }
