@@ -3,8 +3,8 @@ ghost use Prim.Native.Nat.{_≤_};
 ghost use lib.ListN.{length};
 ghost use denote.Ref.{now};
 
-pub mod changes;
-pub mod questions;
+mod changes;
+mod questions;
 
 // A roll is a list that only grows at its end, or is emptied, and that lies in memory lent by the caller: the elements
 // written so far stand in the first `len` places of `items`, and the places after them are free.

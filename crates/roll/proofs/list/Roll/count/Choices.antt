@@ -5,6 +5,7 @@ use denote.Ref.{now}
 use Rattle.roll.specs.Tellers.{tellers}
 use Rattle.roll.proofs.list.Roll.count.Given as given
 
--- what is counted so far
+-- `found` counts the elements passed so far, so it is at most their number.
 abbrev pub Inv-loop-item : given.InvT-loop-item
-Inv-loop-item g l = (l .found ≡ tellers (g .T·TellsSite .told) (take (l .item-index) (now (l .self .items))) (l .site)) × (l .found ≤ l .item-index)
+Inv-loop-item g l =
+    (l .found ≡ tellers (g .T·TellsSite .told) (take (l .item-index) (now (l .self .items))) (l .site)) × (l .found ≤ l .item-index)
