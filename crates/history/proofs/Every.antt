@@ -1,5 +1,6 @@
 -- Every history keeps the promise: the induction over its calls.
-use mathlib.Core.Path.{_≡_, refl, sym, ap, _∙_}
+use mathlib.Core.Path.{_≡_, refl, sym, ap, subst, _∙_}
+use mathlib.Core.List.{List}
 use mathlib.Core.Bool.{Bool, true, false, cond}
 use mathlib.Core.Logic.{_⊎_, inl, inr}
 use Prim.Native.Nat.{ℕ, zero, suc, _+_, _*_, _≤_, _<_}
@@ -12,6 +13,7 @@ use Rattle.std.specs.declared.result.Result.the-variants.{Ok, Err}
 use Rattle.std.proofs.shelf.Tests.{cases-lt, cases-eq, leb-false}
 use lib.Dec.{leb}
 use Rattle.manager.specs.Answers.{answer, first, status-shown, holder-shown}
+use Rattle.manager.specs.Effects.{Parked}
 use Rattle.manager.specs.Laws.{Lawful}
 use Rattle.manager.specs.Meaning.{Meaning, is-holding}
 use Rattle.manager.specs.Refusals.{refused, site-order}
@@ -19,11 +21,12 @@ use Rattle.manager.specs.declared.refusal.Refusal.{Refusal}
 use Rattle.manager.specs.declared.refusal.Refusal.the-variants.{NoSite}
 use Rattle.manager.specs.declared.status.Status.{Status}
 use Rattle.manager.specs.declared.status.Status.the-variants.{Idle, Waiting, Holding}
-use Rattle.history.specs.Calls.{Done, done, _and_, Does}
-use Rattle.history.specs.Histories.{History}
+use Rattle.history.specs.Calls.{Call, Done, done, _and_, Does}
+use Rattle.history.specs.Histories.{History, Performed}
 use Rattle.history.specs.Histories.History.{begin, then}
-use Rattle.history.specs.Promise.{Kept, EveryHistory}
-use Rattle.history.specs.Records.{Kind, Records, Well, under}
+use Rattle.history.specs.Promise.{Kept, EveryHistory, Begun}
+use Rattle.history.specs.Records.{Kind, Records, Well, started, under}
+use Rattle.history.specs.declared.Grant.{Grant}
 use Rattle.history.proofs.Along.{Obeys, Moved, moves}
 
 -- What is shown of a site's status is its status, and the site is one.
@@ -98,3 +101,19 @@ module _ {S : Type 0} (kind : Kind S) (laws : Obeys kind) (a : Records S) where
   pub every-history : Well kind a → a .asks ≡ 0 → a .frees ≡ 0 → a .steps ≡ 0 → under kind a .work ≤ under kind a .toll → EveryHistory kind a
   every-history w p q r small d b history =
       kept d b (along (record { well = w; toll = refl; asks-total = p; frees-total = q; steps-total = r; bound = omega (arith, mul-one (under kind a .toll)) }) history)
+
+module _ {S : Type 0} (kind : Kind S) (laws : Obeys kind) where
+  -- Parking begins a history.
+  pub begun : (m n : S) (g : ℕ) (b : Records S) → refused site-order (kind .meaning m) g ≡ None → kind .parks m g n → b ≡ started n → Begun kind m g b
+  begun m n g b site did e = subst (λ (x : Records S). Begun kind m g x) (sym e) here
+    where
+      now : kind .sound n × Parked (kind .meaning m) g (kind .meaning n)
+      now = laws .parking m n g site did
+      fine : Well kind (started n)
+      fine = record { sound = now .0; counted = sym (now .1 .age) }
+      here : Begun kind m g (started n)
+      here = record { parked = did; anew = refl; well = fine; promised = every-history kind laws (started n) fine refl refl refl (now .1 .work) }
+
+  -- A call that does what one call does is a step of a history.
+  pub performed : {b : Records S} {call : Call} {e : Done} {gs : List Grant} {c : Records S} → Well kind b → Does kind b call e gs c → Performed kind b call gs c
+  performed {e = e} w d = record { carried = e; does = d; well = moves kind laws w d .well }

@@ -7,7 +7,7 @@ use Rattle.manager.specs.Answers.{status-shown, holder-shown}
 use Rattle.manager.specs.declared.status.Status.the-variants.{Waiting, Holding}
 use Rattle.history.specs.Calls.{Done}
 use Rattle.history.specs.Histories.{History}
-use Rattle.history.specs.Records.{Kind, Records, under}
+use Rattle.history.specs.Records.{Kind, Records, Well, started, under}
 
 module _ {S : Type 0} (kind : Kind S) where
   -- After the calls of a history that began at a and has come to b.
@@ -25,3 +25,11 @@ module _ {S : Type 0} (kind : Kind S) where
 
   abbrev pub EveryHistory : Records S → Type 0
   EveryHistory a = (d : Done) (b : Records S) → History kind a d b → Kept a d b
+
+  -- A broker that begins, on a manager that stood at m and was parked at g: nothing has been carried out, and every
+  -- history from here keeps the promise.
+  pub record Begun (m : S) (g : ℕ) (b : Records S) : Type 0 where
+    pub parked : kind .parks m g (b .manager)
+    pub anew : b ≡ started (b .manager)
+    pub well : Well kind b
+    pub promised : EveryHistory b

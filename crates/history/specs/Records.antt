@@ -10,17 +10,14 @@ use Rattle.counting.specs.Sums.{upd}
 use Rattle.manager.specs.Answers.{answer}
 use Rattle.manager.specs.Meaning.{Meaning, is-waiting, is-holding}
 use Rattle.manager.specs.Refusals.{refused, site-order}
+use Rattle.manager.specs.declared.interface.Manager.{Ghosts}
 use Rattle.manager.specs.declared.refusal.Refusal.{Refusal}
 use Rattle.history.specs.declared.Grant.{Grant}
 
--- A kind of manager, with states S: what a state means, and what each carried-out call does.
-pub record Kind (S : Type 0) : Type 1 where
-  pub meaning : S → Meaning
-  pub sound : S → Type 0
-  pub parks : S → ℕ → S → Type 0
-  pub asks : S → ℕ → S → Type 0
-  pub frees : S → ℕ → S → Type 0
-  pub steps : S → ℕ → Option ℕ → S → Type 0
+-- A kind of manager, with states S, is the ghost members of the interface: what a state means, when it is sound, and what
+-- each carried-out call does to it.
+abbrev pub Kind : Type 0 → Type 1
+Kind S = Ghosts S
 
 -- A broker keeps a manager, the totals of the asks, frees and steps carried out since it was started, and for each site
 -- the total of steps when it last asked.
@@ -34,6 +31,10 @@ pub record Records (S : Type 0) : Type 0 where
 abbrev pub grant : (site waited : ℕ) → Grant
 grant site waited = record { site = site; waited = waited }
 
+-- Just made or started: nothing has been carried out.
+abbrev pub started : {S : Type 0} → S → Records S
+started m = record { manager = m; asks = 0; frees = 0; steps = 0; asked = λ i. 0 }
+
 module _ {S : Type 0} (kind : Kind S) where
   -- The meaning of the manager under a broker.
   abbrev pub under : Records S → Meaning
@@ -45,10 +46,6 @@ module _ {S : Type 0} (kind : Kind S) where
 
   abbrev pub wait-shown : Records S → ℕ → Result ℕ Refusal
   wait-shown b i = answer (refused site-order (under b) i) (wait b i)
-
-  -- Just made or started: nothing has been carried out.
-  abbrev pub started : S → Records S
-  started m = record { manager = m; asks = 0; frees = 0; steps = 0; asked = λ i. 0 }
 
   -- Site i has asked, and the manager is m since.
   abbrev pub after-ask : Records S → ℕ → S → Records S
