@@ -7,9 +7,8 @@ use native.Mathlib.Omega.{arith}
 use native.Mathlib.Nat.{mul-zero, mul-one}
 use Rattle.std.specs.declared.option.Option.{Option}
 use Rattle.std.specs.declared.option.Option.the-variants.{Some, None}
-use Rattle.manager.specs.Effects.{Parked, Asked, Freed, Stepped}
-use Rattle.manager.specs.Laws.{Bounded, Lawful}
-use Rattle.manager.specs.Refusals.{due, refused, tried, site-order, ask-order, free-order, step-order}
+use Rattle.manager.specs.Laws.{Laws}
+use Rattle.manager.specs.Refusals.{due, refused, ask-order, step-order}
 use Rattle.manager.specs.declared.refusal.Refusal.{Refusal}
 use Rattle.manager.specs.declared.refusal.Refusal.the-variants.{RollFull, LimitReached}
 use Rattle.history.specs.Calls.{Call, Done, done, _and_, Does, Drained, step-refusal, drain-refusal}
@@ -19,13 +18,9 @@ use Rattle.history.specs.Records.{Kind, Records, Well, under, after-step}
 use Rattle.history.specs.declared.Grant.{Grant}
 use Rattle.history.proofs.Orders.{tried-front, not-due}
 
--- The laws of a kind of manager, as the interface has them.
-pub record Obeys {S : Type 0} (kind : Kind S) : Type 0 where
-  pub lawful : (m : S) → kind .sound m → Lawful (kind .meaning m)
-  pub parking : (m n : S) (g : ℕ) → refused site-order (kind .meaning m) g ≡ None → kind .parks m g n → kind .sound n × Parked (kind .meaning m) g (kind .meaning n)
-  pub asking : (m n : S) (i : ℕ) → kind .sound m → refused ask-order (kind .meaning m) i ≡ None → kind .asks m i n → kind .sound n × Asked (kind .meaning m) i (kind .meaning n)
-  pub freeing : (m n : S) (i : ℕ) → kind .sound m → refused free-order (kind .meaning m) i ≡ None → kind .frees m i n → kind .sound n × Freed (kind .meaning m) i (kind .meaning n)
-  pub stepping : (m n : S) (k : ℕ) (grant : Option ℕ) → kind .sound m → refused step-order (kind .meaning m) k ≡ None → kind .steps m k grant n → kind .sound n × Stepped (kind .meaning m) grant (kind .meaning n)
+-- The laws that a kind of manager owes.
+abbrev pub Obeys : {S : Type 0} → Kind S → Type 0
+Obeys kind = Laws (kind .meaning) (kind .sound) (kind .parks) (kind .asks) (kind .frees) (kind .steps)
 
 -- A broker that has gone from b to c by carrying out e.
 pub record Moved {S : Type 0} (kind : Kind S) (b : Records S) (e : Done) (c : Records S) : Type 0 where

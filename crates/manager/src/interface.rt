@@ -1,13 +1,10 @@
 // A manager shares one indivisible resource among its sites. What it means, and what each call does to it, is said by
 // ghost members; code over a manager is proved once, from the laws below, and holds for every kind.
 ghost use mathlib.Core.Path.{_≡_};
-ghost use mathlib.Core.Bool.{Bool};
-ghost use Prim.Native.Nat.{ℕ, _<_};
+ghost use Prim.Native.Nat.{ℕ};
 ghost use Rattle.std.specs.declared.option.Option.{Option};
-ghost use Rattle.std.specs.declared.option.Option.the-variants.{None};
 ghost use Rattle.manager.specs.Answers.{Call, status-shown, called-shown, holder-shown, toll-shown};
-ghost use Rattle.manager.specs.Effects.{Parked, Asked, Freed, Stepped};
-ghost use Rattle.manager.specs.Laws.{Bounded, Lawful};
+ghost use Rattle.manager.specs.Laws.{Laws};
 ghost use Rattle.manager.specs.Meaning.{Meaning};
 ghost use Rattle.manager.specs.Refusals.{refused, site-order, ask-order, free-order, step-order};
 use crate::refusal::Refusal;
@@ -32,21 +29,8 @@ pub trait Manager {
 
     ghost steps: { Self → ℕ → Option ℕ → Self → Type 0 };
 
-    // Every value is within bounds, sound or not.
-    law bounded: { (m : Self) → Bounded (meaning m) };
-
-    // A sound manager excludes, serves, and marks called and barred sites rightly.
-    law lawful: { (m : Self) → sound m → Lawful (meaning m) };
-
-    // Parking makes any manager sound.
-    law parking: { (m n : Self) (g : ℕ) → refused site-order (meaning m) g ≡ None → parks m g n → sound n × Parked (meaning m) g (meaning n) };
-
-    // Asks, frees and steps keep it sound and have their effects.
-    law asking: { (m n : Self) (i : ℕ) → sound m → refused ask-order (meaning m) i ≡ None → asks m i n → sound n × Asked (meaning m) i (meaning n) };
-
-    law freeing: { (m n : Self) (i : ℕ) → sound m → refused free-order (meaning m) i ≡ None → frees m i n → sound n × Freed (meaning m) i (meaning n) };
-
-    law stepping: { (m n : Self) (k : ℕ) (grant : Option ℕ) → sound m → refused step-order (meaning m) k ≡ None → steps m k grant n → sound n × Stepped (meaning m) grant (meaning n) };
+    // What each kind owes: specs/Laws.antt has the laws one by one.
+    law laws: { Laws meaning sound parks asks frees steps };
 
     // How many sites there are.
     fn sites(&self) -> usize

@@ -1,0 +1,43 @@
+// How a broker is made and started. The promise about every history stands here, on the calls that begin one.
+ghost use mathlib.Core.Path.{_≡_};
+ghost use Prim.Native.Nat.{_-_};
+ghost use Rattle.std.specs.declared.result.Result.the-variants.{Ok, Err};
+ghost use Rattle.manager.specs.Answers.{answer};
+ghost use Rattle.manager.specs.Refusals.{refused, site-order};
+ghost use Rattle.history.specs.Promise.{Begun};
+ghost use Rattle.broker.specs.Reading.{records-of};
+use crate::state::Broker;
+use manager::interface::Manager;
+use manager::refusal::Refusal;
+
+impl<M: Manager> Broker<M> {
+    // A broker over the manager, started at its last site.
+    pub fn new(manager: M) -> Broker<M>
+        ensures begins { λ r. ⌜ Begun M·Manager manager (M·Manager .meaning manager .sites - 1) (records-of r) ⌝ }
+    {
+        let mut manager = manager;
+        let last = manager.sites() - 1;
+        let _ = manager.park(last);
+        Broker {
+            manager,
+            asks: 0,
+            frees: 0,
+            steps: 0,
+            asked: [0; 64],
+        }
+    }
+
+    // Parks the manager at the site and begins anew.
+    pub fn start(&mut self, site: usize) -> Result<(), Refusal>
+        ensures answers { λ r. ⌜ r ≡ answer (refused site-order (M·Manager .meaning (now (self .entry) .manager)) site) tt ⌝ }
+        ensures begins { λ r. ⌜ (r ≡ Ok tt → Begun M·Manager (now (self .entry) .manager) site (records-of (now (self .exit)))) ⌝ }
+        ensures refused_leaves_all { λ r. ⌜ ((e : Refusal) → r ≡ Err e → now (self .exit) ≡ now (self .entry)) ⌝ }
+    {
+        self.manager.park(site)?;
+        self.asks = 0;
+        self.frees = 0;
+        self.steps = 0;
+        self.asked = [0; 64];
+        Ok(())
+    }
+}
