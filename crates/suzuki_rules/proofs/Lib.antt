@@ -1,0 +1,4 @@
+pub mod Ask
+pub mod Facts
+pub mod Lawful
+pub mod Park
