@@ -22,13 +22,9 @@ use Rattle.suzuki_rules.specs.Rules.{held, requested, asked, requests}
 use Rattle.suzuki_rules.specs.State.{State, has-token, wants}
 use Rattle.suzuki_rules.specs.declared.Token.{Token}
 use Rattle.suzuki_rules.specs.declared.Token.the-variants.{At, Sent}
-use Rattle.suzuki_rules.proofs.Facts.{has-token-at, barred-sent, called-holds, called-wanted, called-from, known-most, requests-most}
+use Rattle.suzuki_rules.proofs.Facts.{has-token-at, barred-sent, called-holds, called-kept, heard-same, known-most, requests-most}
 
 module _ (s : State) (i : ℕ) (v : Sound s) (within : i < s .sites) (idle : s .status i ≡ Idle) where
-  -- A site that is not i and holds, or is called, was so before.
-  asker-holds-not : (j : ℕ) → s .status j ≡ Holding → j ≡ i → ⊥
-  asker-holds-not j h e = grind arith
-
   module _ (has : s .token ≡ At i) where
     held-sound : Sound (held s i)
     held-sound = record {
@@ -70,8 +66,8 @@ module _ (s : State) (i : ℕ) (v : Sound s) (within : i < s .sites) (idle : s .
   module _ (lacks : has-token s i ≡ false) where
     requested-heard : (a b : ℕ) → a < s .sites → b < s .sites → (a ≡ b → ⊥) → Heard (requested s i .link a b) (requested s i .known a a) (requested s i .known b a)
     requested-heard a b ha hb ne = elim (cases-eq a i) [
-      | inl e ↦ ?
-      | inr k ↦ ?
+      | inl e ↦ heard-same (Some (s .known i i + 1)) (requested s i .link a b) (s .known i i + 1) (requested s i .known a a) (s .known b i) (requested s i .known b a) (grind (arith, tells)) (grind (arith, tells)) (grind (arith, tells)) (refl, omega (arith, known-most s i b v within hb))
+      | inr k ↦ heard-same (s .link a b) (requested s i .link a b) (s .known a a) (requested s i .known a a) (s .known b a) (requested s i .known b a) (grind (arith, tells)) (grind (arith, tells)) (grind (arith, tells)) (v .heard a b ha hb ne)
     ]
 
     requested-sound : Sound (requested s i)
@@ -100,7 +96,12 @@ module _ (s : State) (i : ℕ) (v : Sound s) (within : i < s .sites) (idle : s .
 
     -- At most the REQUESTs of row i are new, and i sends none to itself.
     requested-total : total (requests (requested s i)) (s .sites) ≤ total (requests s) (s .sites) + (s .sites - 1)
-    requested-total = ?
+    requested-total =
+        let f : ℕ → ℕ → ℕ = requests s in
+        let g : ℕ → ℕ → ℕ = requests (requested s i) in
+        let changed : total g (s .sites) + row f (s .sites) i ≡ total f (s .sites) + row g (s .sites) i = total-row-change f g (s .sites) i within (λ a b ha hb ne. grind (arith, tells)) in
+        let small : row g (s .sites) i + 1 ≤ s .sites = sum-but-one (g i) (s .sites) i within (λ j l. requests-most (requested s i) i j) (grind (arith, tells, v .no-loop i within)) in
+        omega arith
 
     requested-asked : Asked (meaning-of s) i (meaning-of (requested s i))
     requested-asked = record {
@@ -108,8 +109,8 @@ module _ (s : State) (i : ℕ) (v : Sound s) (within : i < s .sites) (idle : s .
       toll = refl;
       asker = inl (upd-same (s .status) i Waiting);
       others = λ j l. upd-other (s .status) i Waiting j;
-      called = λ j l c. ?;
-      barred = λ j l b free. ?;
+      called = λ j l c. called-kept s (requested s i) j refl refl (grind (arith, tells, called-holds s j c)) (λ k m ne w. grind (arith, tells, called-holds s j c)) c;
+      barred = λ j l b free. (b, λ h. let t = barred-sent s j b in grind (arith, tells, t .1, v .holder-has j l));
       work = omega (arith, requested-total);
       age = refl;
     }

@@ -77,6 +77,13 @@ called-from s i h (inr w) =
     let k : wanted s i (s .sites) ≡ true = wanted-from s i (w .0) (s .sites) (w .1) (w .2) (w .3) in
     and-from (is-holding (s .status i)) (not (empty (s .queue)) || wanted s i (s .sites)) (ap is-holding h) (or-right (not (empty (s .queue))) (wanted s i (s .sites)) k)
 
+-- Called lasts where the queue stays, a holder holds on, and whom i knew to wait it still does.
+pub called-kept : (s s′ : State) (i : ℕ) → s′ .sites ≡ s .sites → s′ .queue ≡ s .queue → s′ .status i ≡ Holding → ((j : ℕ) → j < s .sites → (j ≡ i → ⊥) → wants s i j ≡ true → wants s′ i j ≡ true) → is-called s i ≡ true → is-called s′ i ≡ true
+called-kept s s′ i n q h w c = called-from s′ i h (elim (called-wanted s i c) [
+  | inl p ↦ inl (ap empty q ∙ p)
+  | inr k ↦ inr (k .0, omega (arith, k .1), k .2, w (k .0) (k .1) (k .2) (k .3))
+])
+
 -- A queue that is not empty has a site in it.
 pub first-of : (q : List ℕ) → empty q ≡ false → (j : ℕ) × (0 < times q j)
 first-of [] h = grind arith
@@ -87,6 +94,9 @@ requests-most s a b = grind arith
 
 pub requests-none : (s : State) (a b : ℕ) → requests s a b ≡ 0 → s .link a b ≡ None
 requests-none s a b h = grind arith
+
+pub heard-same : (o o′ : Option ℕ) (own own′ heard heard′ : ℕ) → o′ ≡ o → own′ ≡ own → heard′ ≡ heard → Heard o own heard → Heard o′ own′ heard′
+heard-same o o′ own own′ heard heard′ p q r h = rw (p, q, r) h
 
 -- Nobody knows of a site a number above its own.
 pub known-most : (s : State) (i j : ℕ) → Sound s → i < s .sites → j < s .sites → s .known j i ≤ s .known i i
