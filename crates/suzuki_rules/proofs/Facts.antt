@@ -106,13 +106,16 @@ known-most s i j v hi hj = elim (cases-eq i j) [ inl e ↦ grind arith | inr ne 
     go (Some m) h = omega arith
     go None h = omega arith
 
--- Whom the token's site knows to wait does wait.
-pub wanted-waits : (s : State) (i j : ℕ) → Sound s → s .token ≡ At i → j < s .sites → i < s .sites → (j ≡ i → ⊥) → wants s i j ≡ true → s .status j ≡ Waiting
-wanted-waits s i j v e hj hi ne w = go (s .status j) refl
+-- A site without the token that has a request unserved waits.
+pub unserved-waits : (s : State) (i j : ℕ) → Sound s → s .token ≡ At i → j < s .sites → (j ≡ i → ⊥) → s .known j j ≡ s .served j + 1 → s .status j ≡ Waiting
+unserved-waits s i j v e hj ne own = go (s .status j) refl
   where
-    own : s .known j j ≡ s .served j + 1
-    own = grind (arith, tells, known-most s j i v hj hi, v .served-high j hj)
     go : (x : Status) → s .status j ≡ x → s .status j ≡ Waiting
-    go Idle k = absurd (omega (arith, v .idle-served j hj k, own))
+    go Idle k = absurd (omega (arith, v .idle-served j hj k))
     go Waiting k = k
     go Holding k = absurd (let p : s .token ≡ At j = v .holder-has j hj k in ne (cc))
+
+-- Whom the token's site knows to wait does wait.
+pub wanted-waits : (s : State) (i j : ℕ) → Sound s → s .token ≡ At i → j < s .sites → (j ≡ i → ⊥) → wants s i j ≡ true → s .status j ≡ Waiting
+wanted-waits s i j v e hj ne w =
+    unserved-waits s i j v e hj ne (grind (arith, tells, known-most s j i v hj (v .at-site i e), v .served-high j hj))

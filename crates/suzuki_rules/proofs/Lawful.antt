@@ -56,7 +56,7 @@ module _ (s : State) (v : Sound s) where
     called-holds = λ i hi c. called-holds s i c;
     called-wanted = λ i hi c. elim (called-wanted s i c) [
       | inl q ↦ let f = first-of (s .queue) q in (f .0, v .queue-site (f .0) (f .1), v .queue-waits (f .0) (f .1))
-      | inr w ↦ (w .0, w .1, wanted-waits s i (w .0) v (v .holder-has i hi (called-holds s i c)) (w .1) hi (w .2) (w .3))
+      | inr w ↦ (w .0, w .1, wanted-waits s i (w .0) v (v .holder-has i hi (called-holds s i c)) (w .1) (w .2) (w .3))
     ];
     barred-free = λ i j hi hj b h. let t = barred-sent s i b in grind (arith, v .holder-has j hj h, t .1);
   }

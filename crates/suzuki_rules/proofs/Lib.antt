@@ -2,3 +2,4 @@ pub mod Ask
 pub mod Facts
 pub mod Lawful
 pub mod Park
+pub mod Step
