@@ -2,4 +2,5 @@ pub mod Ask
 pub mod Facts
 pub mod Lawful
 pub mod Park
+pub mod Search
 pub mod Step
