@@ -8,7 +8,7 @@ use lib.Dec.{eqb}
 use Rattle.std.proofs.shelf.Tests.{eq-eqb, ne-eqb, cond-true, cond-false, and-left, and-right, and-from, cases-eq}
 use Rattle.counting.specs.Sums.{sum}
 use Rattle.counting.specs.Tables.{row, total, before, upd2}
-use Rattle.counting.proofs.Sums.{sum-ext, sum-change, sum-at, sum-none, sum-most, sum-ones}
+use Rattle.counting.proofs.Sums.{sum-ext, sum-change, sum-at, sum-none, sum-most}
 
 pub upd2-same : {A : Type 0} (f : ℕ → ℕ → A) (i j : ℕ) (v : A) → upd2 f i j v i j ≡ v
 upd2-same f i j v = cond-true (eqb i i && eqb j j) v (f i j) (and-from (eqb i i) (eqb j j) (eq-eqb i i refl) (eq-eqb j j refl))

@@ -1,55 +1,27 @@
 -- An ask at an idle site keeps a state sound and does what an ask has to do.
 use mathlib.Core.Path.{_≡_, refl}
-use mathlib.Core.Bool.{Bool, true, false, cond, not, _&&_}
-use mathlib.Core.Logic.{_⊎_, inl, inr}
-use Prim.Native.Nat.{ℕ, _+_, _-_, _*_, _≤_, _<_}
+use mathlib.Core.Bool.{false}
+use mathlib.Core.Logic.{inl, inr}
+use Prim.Native.Nat.{ℕ, _+_, _-_, _≤_, _<_}
 use native.Mathlib.Omega.{arith}
-use lib.Dec.{eqb, ltb}
-use Rattle.std.specs.declared.option.Option.{Option}
-use Rattle.std.specs.declared.option.Option.the-variants.{Some, None}
+use Rattle.std.specs.declared.option.Option.the-variants.{Some}
 use Rattle.std.proofs.shelf.Tests.{cases-eq, cond-both}
 use Rattle.std.proofs.shelf.Ways.{tells}
-use Rattle.counting.specs.Sums.{upd, sum}
-use Rattle.counting.specs.Tables.{total, row, upd2}
+use Rattle.counting.specs.Tables.{total, row}
 use Rattle.counting.proofs.Sums.{upd-same, upd-other, sum-but-one}
 use Rattle.counting.proofs.Tables.{total-row-change}
-use Rattle.manager.specs.Effects.{Asked, CalledLasts, BarredLasts}
-use Rattle.manager.specs.declared.status.Status.{Status}
+use Rattle.manager.specs.Effects.{Asked}
 use Rattle.manager.specs.declared.status.Status.the-variants.{Idle, Waiting, Holding}
 use Rattle.suzuki_rules.specs.Invariant.{Sound, Heard}
-use Rattle.suzuki_rules.specs.Reading.{meaning-of, is-called, is-barred}
+use Rattle.suzuki_rules.specs.Reading.{meaning-of}
 use Rattle.suzuki_rules.specs.Rules.{held, requested, asked, requests}
-use Rattle.suzuki_rules.specs.State.{State, has-token, wants}
-use Rattle.suzuki_rules.specs.declared.Token.{Token}
-use Rattle.suzuki_rules.specs.declared.Token.the-variants.{At, Sent}
+use Rattle.suzuki_rules.specs.State.{State, has-token}
+use Rattle.suzuki_rules.specs.declared.Token.the-variants.{At}
+use Rattle.suzuki_rules.proofs.Hold.{held-sound}
 use Rattle.suzuki_rules.proofs.Facts.{has-token-at, barred-sent, called-holds, called-kept, heard-same, known-most, requests-most}
 
 module _ (s : State) (i : ℕ) (v : Sound s) (within : i < s .sites) (idle : s .status i ≡ Idle) where
   module _ (has : s .token ≡ At i) where
-    held-sound : Sound (held s i)
-    held-sound = record {
-      fewest = v .fewest;
-      most = v .most;
-      at-site = v .at-site;
-      sent-site = v .sent-site;
-      sent-waits = λ t p. grind arith;
-      holder-has = λ j l p. grind (arith, tells, v .holder-has);
-      has-no-wait = λ t p q. grind (arith, tells);
-      served-low = v .served-low;
-      served-high = v .served-high;
-      idle-served = λ j l p. grind (arith, tells, v .idle-served);
-      waiting-unserved = λ j l p. grind (arith, tells, v .waiting-unserved);
-      heard = v .heard;
-      no-loop = v .no-loop;
-      once = v .once;
-      queue-site = v .queue-site;
-      queue-waits = λ j p. grind (arith, tells, v .queue-waits j p);
-      queue-apart = v .queue-apart;
-      idle-queue = λ t p q. grind (arith, tells);
-      idle-knows = λ t j p q. grind (arith, tells);
-      young = λ j l. omega (arith, v .young j l);
-    }
-
     -- While i has the token and is idle no site holds, and none is barred.
     held-asked : Asked (meaning-of s) i (meaning-of (held s i))
     held-asked = record {
@@ -117,4 +89,4 @@ module _ (s : State) (i : ℕ) (v : Sound s) (within : i < s .sites) (idle : s .
 
 pub ask-lawful : (s : State) (i : ℕ) → Sound s → i < s .sites → s .status i ≡ Idle → Sound (asked s i) × Asked (meaning-of s) i (meaning-of (asked s i))
 ask-lawful s i v within idle =
-    cond-both (has-token s i) (held s i) (requested s i) (λ s′. Sound s′ × Asked (meaning-of s) i (meaning-of s′)) (λ e. let has = has-token-at s i e in (held-sound s i v within idle has, held-asked s i v within idle has)) (λ e. (requested-sound s i v within idle e, requested-asked s i v within idle e))
+    cond-both (has-token s i) (held s i) (requested s i) (λ s′. Sound s′ × Asked (meaning-of s) i (meaning-of s′)) (λ e. let has = has-token-at s i e in (held-sound s i v within has idle, held-asked s i v within idle has)) (λ e. (requested-sound s i v within idle e, requested-asked s i v within idle e))

@@ -1,28 +1,25 @@
 -- What a state's tests say of it: who has the token, who is called, who is barred, and what is under way.
-use mathlib.Core.Path.{_≡_, refl, sym, ap, subst, _∙_}
-use mathlib.Core.Bool.{Bool, true, false, cond, not, _&&_, _||_}
-use mathlib.Core.List.{List, [], _∷_, _++_}
+use mathlib.Core.Path.{_≡_, refl, ap, _∙_}
+use mathlib.Core.Bool.{true, false, not, _&&_, _||_}
+use mathlib.Core.List.{List, [], _∷_}
 use mathlib.Core.Logic.{_⊎_, inl, inr}
-use Prim.Native.Nat.{ℕ, zero, suc, _+_, _-_, _*_, _≤_, _<_, max}
+use Prim.Native.Nat.{ℕ, zero, suc, _+_, _≤_, _<_}
 use native.Mathlib.Omega.{arith}
-use lib.Dec.{eqb, ltb}
+use lib.Dec.{eqb}
 use Rattle.std.specs.declared.option.Option.{Option}
 use Rattle.std.specs.declared.option.Option.the-variants.{Some, None}
-use Rattle.std.proofs.shelf.Tests.{and-parts, and-from, or-cases, or-left, or-right, not-true, eqb-true, eqb-false, eq-eqb, ne-eqb, cases-eq, cases-bool, both-ways}
+use Rattle.std.proofs.shelf.Tests.{and-parts, and-from, or-cases, or-left, or-right, not-true, cases-eq}
 use Rattle.std.proofs.shelf.Ways.{tells}
-use Rattle.counting.specs.Sums.{upd, times, one-if}
-use Rattle.counting.specs.Tables.{total, upd2}
-use Rattle.counting.proofs.Sums.{upd-same, upd-other}
-use Rattle.manager.specs.Meaning.{is-idle, is-holding}
+use Rattle.counting.specs.Sums.{times}
+use Rattle.manager.specs.Meaning.{is-holding}
 use Rattle.manager.specs.declared.status.Status.{Status}
 use Rattle.manager.specs.declared.status.Status.the-variants.{Idle, Waiting, Holding}
-use Rattle.suzuki_rules.specs.State.{State, has-token, wants, queued}
+use Rattle.suzuki_rules.specs.State.{State, has-token, wants}
 use Rattle.suzuki_rules.specs.Invariant.{Sound, Heard}
 use Rattle.suzuki_rules.specs.Rules.{requests}
-use Rattle.suzuki_rules.specs.Reading.{wanted, empty, is-called, is-barred, tokens-sent}
+use Rattle.suzuki_rules.specs.Reading.{wanted, empty, is-called, is-barred}
 use Rattle.suzuki_rules.specs.declared.Token.{Token}
 use Rattle.suzuki_rules.specs.declared.Token.the-variants.{At, Sent}
-
 
 pub has-token-at : (s : State) (i : ℕ) → has-token s i ≡ true → s .token ≡ At i
 has-token-at s i h = grind (arith, tells)
@@ -67,9 +64,9 @@ called-holds s i h = holds-of (s .status i) (and-parts (is-holding (s .status i)
 pub called-wanted : (s : State) (i : ℕ) → is-called s i ≡ true → Wanted s i
 called-wanted s i h =
     elim (or-cases (not (empty (s .queue))) (wanted s i (s .sites)) (and-parts (is-holding (s .status i)) (not (empty (s .queue)) || wanted s i (s .sites)) h .1)) [
-  | inl p ↦ inl (not-true (empty (s .queue)) p)
-  | inr p ↦ inr (wanted-some s i (s .sites) p)
-]
+      | inl p ↦ inl (not-true (empty (s .queue)) p)
+      | inr p ↦ inr (wanted-some s i (s .sites) p)
+    ]
 
 pub called-from : (s : State) (i : ℕ) → s .status i ≡ Holding → Wanted s i → is-called s i ≡ true
 called-from s i h (inl p) = grind arith

@@ -1,21 +1,20 @@
 -- A free at a holder keeps a state sound and does what a free has to do, in whatever order the other sites are visited.
-use mathlib.Core.Path.{_≡_, refl, sym, ap, _∙_}
-use mathlib.Core.Bool.{Bool, true, false, cond, not, _&&_}
+use mathlib.Core.Path.{_≡_, refl, ap}
+use mathlib.Core.Bool.{false}
 use mathlib.Core.List.{List, [], _∷_}
-use mathlib.Core.Logic.{_⊎_, inl, inr}
-use Prim.Native.Nat.{ℕ, _+_, _-_, _*_, _≤_, _<_}
+use mathlib.Core.Logic.{inl, inr}
+use Prim.Native.Nat.{ℕ, _+_, _≤_, _<_}
 use native.Mathlib.Omega.{arith}
-use lib.Dec.{eqb, ltb}
 use Rattle.std.proofs.shelf.Tests.{cases-bool}
 use Rattle.std.proofs.shelf.Ways.{tells}
-use Rattle.counting.specs.Sums.{upd, times, one-if}
+use Rattle.counting.specs.Sums.{times}
 use Rattle.counting.proofs.Sums.{upd-same, upd-other}
 use Rattle.manager.specs.Effects.{Freed}
 use Rattle.manager.specs.declared.status.Status.the-variants.{Idle, Waiting, Holding}
 use Rattle.suzuki_rules.specs.Invariant.{Sound}
-use Rattle.suzuki_rules.specs.Reading.{meaning-of, empty, is-called, is-barred, tokens-sent}
+use Rattle.suzuki_rules.specs.Reading.{meaning-of, empty, tokens-sent}
 use Rattle.suzuki_rules.specs.Rules.{order, searched, token-after, rest, freed-by, freed}
-use Rattle.suzuki_rules.specs.State.{State, wants, queued}
+use Rattle.suzuki_rules.specs.State.{State, wants}
 use Rattle.suzuki_rules.specs.declared.Token.{Token}
 use Rattle.suzuki_rules.specs.declared.Token.the-variants.{At, Sent}
 use Rattle.suzuki_rules.proofs.Facts.{Wanted, called-wanted, first-of, known-most, sent-bars, wanted-waits}

@@ -1,13 +1,10 @@
 -- The meaning of every sound state is lawful, and that of every state of a fit size is bounded.
 use mathlib.Core.Path.{_≡_, refl, sym, ap, _∙_}
-use mathlib.Core.Bool.{true, false}
-use mathlib.Core.Logic.{_⊎_, inl, inr}
-use Prim.Native.Nat.{ℕ, _+_, _*_, _≤_, _<_}
+use mathlib.Core.Bool.{true}
+use mathlib.Core.Logic.{inl, inr}
+use Prim.Native.Nat.{ℕ, _+_, _≤_, _<_}
 use native.Mathlib.Nat.{mul-le-mul-right}
 use native.Mathlib.Omega.{arith}
-use Rattle.std.specs.declared.option.Option.{Option}
-use Rattle.std.specs.declared.option.Option.the-variants.{Some, None}
-use Rattle.std.proofs.shelf.Tests.{cases-eq}
 use Rattle.std.proofs.shelf.Ways.{tells}
 use Rattle.counting.specs.Tables.{total}
 use Rattle.counting.proofs.Tables.{total-none, total-most}
@@ -15,10 +12,10 @@ use Rattle.manager.specs.Laws.{Bounded, Lawful}
 use Rattle.manager.specs.Meaning.{limit}
 use Rattle.manager.specs.declared.status.Status.{Status}
 use Rattle.manager.specs.declared.status.Status.the-variants.{Idle, Waiting, Holding}
-use Rattle.suzuki_rules.specs.Invariant.{Sound, Heard}
-use Rattle.suzuki_rules.specs.Reading.{meaning-of, is-called, is-barred, tokens-sent}
+use Rattle.suzuki_rules.specs.Invariant.{Sound}
+use Rattle.suzuki_rules.specs.Reading.{meaning-of, is-called, tokens-sent}
 use Rattle.suzuki_rules.specs.Rules.{requests}
-use Rattle.suzuki_rules.specs.State.{State, wants}
+use Rattle.suzuki_rules.specs.State.{State}
 use Rattle.suzuki_rules.specs.declared.Token.{Token}
 use Rattle.suzuki_rules.specs.declared.Token.the-variants.{At, Sent}
 use Rattle.suzuki_rules.proofs.Facts.{barred-sent, called-holds, called-wanted, called-from, first-of, requests-most, requests-none, wanted-waits}
@@ -36,16 +33,21 @@ module _ (s : State) (v : Sound s) where
     where
       ht : t < s .sites
       ht = v .at-site t e
+
       apart : i ≡ t → ⊥
       apart q = v .has-no-wait t e (ap (s .status) (sym q) ∙ w)
+
       heard : s .known t i ≡ s .known i i
       heard = rw (requests-none s i t (total-none (requests s) (s .sites) i t none hi ht)) at (v .heard i t hi ht apart)
+
       own : s .known i i ≡ s .served i + 1
       own = v .waiting-unserved i hi w
+
       only-holds : (x : Status) → s .status t ≡ x → s .status t ≡ Holding
       only-holds Idle k = absurd (omega (arith, v .idle-knows t i e k hi apart, heard, own))
       only-holds Waiting k = absurd (v .has-no-wait t e k)
       only-holds Holding k = k
+
       holds : s .status t ≡ Holding
       holds = only-holds (s .status t) refl
 

@@ -1,6 +1,7 @@
 pub mod Ask
 pub mod Facts
 pub mod Free
+pub mod Hold
 pub mod Lawful
 pub mod Park
 pub mod Search

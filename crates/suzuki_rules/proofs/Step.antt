@@ -1,30 +1,27 @@
 -- A step, the coming of a REQUEST or of the token, keeps a state sound and does what a step has to do.
 use mathlib.Core.Path.{_≡_, refl}
-use mathlib.Core.Bool.{Bool, true, false, cond, not, _&&_}
-use mathlib.Core.List.{List, []}
-use mathlib.Core.Logic.{_⊎_, inl, inr}
-use Prim.Native.Nat.{ℕ, _+_, _-_, _*_, _≤_, _<_, max}
+use mathlib.Core.Bool.{Bool, true, false, _&&_}
+use mathlib.Core.Logic.{inl, inr}
+use Prim.Native.Nat.{ℕ, _+_, _≤_, _<_, max}
 use native.Mathlib.Omega.{arith}
-use lib.Dec.{eqb, ltb}
+use lib.Dec.{eqb}
 use Rattle.std.specs.declared.option.Option.{Option}
 use Rattle.std.specs.declared.option.Option.the-variants.{Some, None}
-use Rattle.std.proofs.shelf.Tests.{cases-eq, cases-bool, cond-both}
+use Rattle.std.proofs.shelf.Tests.{cases-bool, cond-both}
 use Rattle.std.proofs.shelf.Ways.{tells}
-use Rattle.counting.specs.Sums.{upd, sum, times}
-use Rattle.counting.specs.Tables.{total, upd2}
+use Rattle.counting.specs.Tables.{total}
 use Rattle.counting.proofs.Sums.{upd-same, upd-other}
 use Rattle.counting.proofs.Tables.{total-change}
 use Rattle.manager.specs.Effects.{Stepped}
 use Rattle.manager.specs.Meaning.{is-idle}
-use Rattle.manager.specs.declared.status.Status.{Status}
 use Rattle.manager.specs.declared.status.Status.the-variants.{Idle, Waiting, Holding}
 use Rattle.suzuki_rules.specs.Invariant.{Sound, Heard}
 use Rattle.suzuki_rules.specs.Reading.{meaning-of, tokens-sent}
 use Rattle.suzuki_rules.specs.Rules.{received, arrived, requests, Delivered, request-comes, token-comes}
-use Rattle.suzuki_rules.specs.State.{State, has-token, wants}
-use Rattle.suzuki_rules.specs.declared.Token.{Token}
+use Rattle.suzuki_rules.specs.State.{State, has-token}
 use Rattle.suzuki_rules.specs.declared.Token.the-variants.{At, Sent}
-use Rattle.suzuki_rules.proofs.Facts.{has-token-at, barred-sent, called-holds, called-kept, heard-same, unserved-waits}
+use Rattle.suzuki_rules.proofs.Hold.{arrived-sound}
+use Rattle.suzuki_rules.proofs.Facts.{barred-sent, called-holds, called-kept, heard-same, unserved-waits}
 
 -- Does b, told by a REQUEST with number m that a waits, send it the token?
 abbrev sends : State → (a b m : ℕ) → Bool
@@ -104,30 +101,6 @@ module _ (s : State) (v : Sound s) (a b m : ℕ) (ha : a < s .sites) (hb : b < s
   }
 
 module _ (s : State) (v : Sound s) (t : ℕ) (sent : s .token ≡ Sent t) where
-  arrived-sound : Sound (arrived s t)
-  arrived-sound = record {
-    fewest = v .fewest;
-    most = v .most;
-    at-site = λ u p. grind (arith, v .sent-site t sent);
-    sent-site = λ u p. grind arith;
-    sent-waits = λ u p. grind arith;
-    holder-has = λ j l p. grind (arith, tells, v .holder-has j l);
-    has-no-wait = λ u p q. grind (arith, tells);
-    served-low = v .served-low;
-    served-high = v .served-high;
-    idle-served = λ j l p. grind (arith, tells, v .idle-served j l);
-    waiting-unserved = λ j l p. grind (arith, tells, v .waiting-unserved j l);
-    heard = v .heard;
-    no-loop = v .no-loop;
-    once = v .once;
-    queue-site = v .queue-site;
-    queue-waits = λ j p. grind (arith, tells, v .queue-waits j p, v .queue-apart j p);
-    queue-apart = λ j p q. grind arith;
-    idle-queue = λ u p q. grind (arith, tells);
-    idle-knows = λ u j p q. grind (arith, tells);
-    young = λ j l. omega (arith, v .young j l);
-  }
-
   arrived-stepped : Stepped (meaning-of s) (Some t) (meaning-of (arrived s t))
   arrived-stepped = record {
     sites = refl;
@@ -141,4 +114,4 @@ module _ (s : State) (v : Sound s) (t : ℕ) (sent : s .token ≡ Sent t) where
 
 pub step-lawful : (s : State) (k : ℕ) (grant : Option ℕ) (s′ : State) → Sound s → Delivered s k grant s′ → Sound s′ × Stepped (meaning-of s) grant (meaning-of s′)
 step-lawful s k grant s′ v (request-comes a b m ha hb sent place) = (received-sound s v a b m ha hb sent, received-stepped s v a b m ha hb sent)
-step-lawful s k grant s′ v (token-comes t sent place) = (arrived-sound s v t sent, arrived-stepped s v t sent)
+step-lawful s k grant s′ v (token-comes t sent place) = (arrived-sound s t v (v .sent-site t sent) sent, arrived-stepped s v t sent)
