@@ -18,7 +18,7 @@ use Rattle.suzuki_rules.specs.State.{State, wants}
 use Rattle.suzuki_rules.specs.declared.Token.{Token}
 use Rattle.suzuki_rules.specs.declared.Token.the-variants.{At, Sent}
 use Rattle.suzuki_rules.proofs.Facts.{Wanted, called-wanted, first-of, known-most, sent-bars, wanted-waits}
-use Rattle.suzuki_rules.proofs.Search.{Visits, order-visits, times-searched, searched-from, searched-once}
+use Rattle.suzuki_rules.proofs.Search.{Visits, visits-site, order-visits, times-searched, searched-from, searched-once}
 
 -- The token stays only with an empty queue, and else leaves for a site of the queue.
 after-at : (q : List ℕ) (x : Token) (t : ℕ) → token-after q x ≡ At t → (q ≡ []) × (x ≡ At t)
@@ -57,7 +57,7 @@ module _ (js : List ℕ) (s : State) (i : ℕ) (visits : Visits js (s .sites) i)
   found-waits j h = elim (searched-from s i (s .queue) js j h) [
     | inl p ↦ (v .queue-site j p, v .queue-waits j p)
     | inr p ↦
-        let small : j < s .sites = grind (arith, tells, visits j, p .1) in
+        let small : j < s .sites = visits-site js (s .sites) i visits j (p .1) in
         (small, wanted-waits s i j v has small (grind (arith, tells, visits j, p .1)) (p .0))
   ]
 

@@ -1,5 +1,5 @@
 -- What a freeing site's search through the others leaves in the queue, and that its order visits each of them once.
-use mathlib.Core.Path.{_≡_, refl, ap}
+use mathlib.Core.Path.{_≡_, refl, ap, _∙_}
 use mathlib.Core.Bool.{true, not, _&&_}
 use mathlib.Core.List.{List, [], _∷_, _++_}
 use mathlib.Core.Logic.{_⊎_, inl, inr}
@@ -33,6 +33,12 @@ range-more a (suc k) =
     let last : a + 1 + k ≡ a + suc k = omega arith in
     cc
 
+pub range-site : (a k x : ℕ) → 0 < times (range a k) x → x < a + k
+range-site a k x h = grind (arith, tells, times-range a k x)
+
+pub visits-site : (js : List ℕ) (n i : ℕ) → Visits js n i → (x : ℕ) → 0 < times js x → x < n
+visits-site js n i visits x h = grind (arith, tells, visits x)
+
 pub order-visits : (i n : ℕ) → i < n → Visits (order i n) n i
 order-visits i n h j =
     grind (arith, tells, times-append (range (i + 1) (n - (i + 1))) (range 0 i) j, times-range (i + 1) (n - (i + 1)) j, times-range 0 i j)
@@ -50,6 +56,10 @@ module _ (s : State) (i : ℕ) where
   pub searched-append : (q xs ys : List ℕ) → searched s i q (xs ++ ys) ≡ searched s i (searched s i q xs) ys
   searched-append q [] ys = refl
   searched-append q (x ∷ xs) ys = searched-append (enqueued s i q x) xs ys
+
+  -- One more site of a range.
+  pub searched-more : (q : List ℕ) (a k : ℕ) → searched s i q (range a (k + 1)) ≡ enqueued s i (searched s i q (range a k)) (a + k)
+  searched-more q a k = ap (searched s i q) (range-more a k) ∙ searched-append q (range a k) ((a + k) ∷ [])
 
   pub searched-from : (q js : List ℕ) (x : ℕ) → 0 < times (searched s i q js) x → (0 < times q x) ⊎ ((wants s i x ≡ true) × (0 < times js x))
   searched-from q js x h = elim (cases-lt 0 (times q x)) [
