@@ -10,9 +10,6 @@ use Rattle.std.specs.declared.option.Option.the-variants.{Some, None}
 use mathlib.Core.Logic.{inl, inr}
 use Rattle.std.proofs.shelf.Lists.{getD-past, getD-replicate, length-replicate}
 use Rattle.std.proofs.shelf.Tests.{lt-leb, cond-false, cases-lt}
-use Rattle.std.specs.declared.result.Result.{Result}
-use Rattle.std.specs.declared.result.Result.the-variants.{Ok, Err}
-use Rattle.manager.specs.Answers.{answer}
 use Rattle.manager.specs.Meaning.{Meaning}
 use Rattle.manager.specs.Refusals.{refused, site-order}
 use Rattle.manager.specs.declared.refusal.Refusal.{Refusal}
@@ -27,18 +24,10 @@ use Rattle.broker.specs.declared.state.Broker.{Broker}
 pub is-site : (m : Meaning) (i : ℕ) → i < m .sites → refused site-order m i ≡ None
 is-site m i h = cond-false (leb (m .sites) i) (Some NoSite) None (lt-leb (m .sites) i h)
 
--- An answer that is no refusal.
-pub accepted : {A : Type 0} (o : Option Refusal) (a x : A) → Ok x ≡ answer o a → o ≡ None
-accepted None a x e = refl
-accepted (Some r) a x e = absurd (let z : _≡_ {A = ℕ} 0 1 = cc in omega arith)
-
 pub zeros : (n i : ℕ) → getD {A = ℕ} (replicate n 0) i 0 ≡ 0
 zeros n i = elim (cases-lt i n) [
     inl h ↦ getD-replicate {A = ℕ} n i 0 0 h
   | inr h ↦ getD-past {X = ℕ} (replicate n 0) i 0 (omega (arith, length-replicate {A = ℕ} n 0)) ]
-
-pub ok-not-err : {A B : Type 0} (a : A) (b : B) → Ok a ≡ Err b → ⊥
-ok-not-err a b e = let z : _≡_ {A = ℕ} 0 1 = cc in omega arith
 
 -- All totals 0, and 0 steps at each site's ask.
 pub fresh : {S : Type 0} (m : S) → records-of (record { manager = m; asks = 0; frees = 0; steps = 0; asked = replicate 64 0 }) ≡ started m

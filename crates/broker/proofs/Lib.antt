@@ -1,1 +1,4 @@
+pub mod Answering
 pub mod Begin
+pub mod Outcomes
+pub mod Rolling

@@ -1,18 +1,19 @@
 // The calls that carry out one thing: ask, free and step.
 ghost use mathlib.Core.Path.{_≡_};
 ghost use mathlib.Core.List.{List, []};
-ghost use Prim.Native.Nat.{ℕ, _+_, _<_};
+ghost use Prim.Native.Nat.{ℕ, _+_, _-_, _^_, _<_, min};
 ghost use lib.Dec.{leb};
+ghost use lib.ListN.{length, set};
 ghost use Rattle.std.specs.declared.option.Option.{Option};
-ghost use Rattle.std.specs.declared.result.Result.the-variants.{Ok, Err};
+ghost use Rattle.std.specs.declared.result.Result.the-variants.{Ok};
 ghost use Rattle.manager.specs.Answers.{answer};
 ghost use Rattle.manager.specs.Meaning.{limit};
-ghost use Rattle.manager.specs.Refusals.{refused, ask-order, free-order, step-order};
+ghost use Rattle.manager.specs.Refusals.{refused, ask-order, step-order};
 ghost use Rattle.roll.specs.Contents.{room-of};
-ghost use Rattle.history.specs.Calls.{ask as ask-call, free as free-call, step as step-call, ask-refusal, step-refusal};
-ghost use Rattle.history.specs.Histories.{Performed};
-ghost use Rattle.history.specs.Records.{Well};
+ghost use Rattle.history.specs.Calls.{ask as ask-call, free as free-call, step as step-call};
+ghost use Rattle.history.specs.Records.{Well, grants-by-step};
 ghost use Rattle.history.specs.declared.Grant.{Grant};
+ghost use Rattle.broker.specs.Outcome.{Outcome};
 ghost use Rattle.broker.specs.Reading.{records-of};
 ghost use Rattle.broker.specs.Rolling.{Rolled};
 use crate::state::Broker;
@@ -26,6 +27,48 @@ use manager::status::StatusPartialEq;
 const AGE_LIMIT: u64 = 1_000_000_000_000_000;
 
 impl<M: Manager> Broker<M> {
+    // Asks for a site, and answers its status then. A site served there and then is a grant.
+    pub fn ask(&mut self, site: usize, roll: &mut Roll<'_, Grant>) -> Result<Status, Refusal>
+        ensures { λ r. ⌜ (Well M·Manager (records-of (now (self .entry))) → (grants : List Grant) × Outcome M·Manager (now (self .entry)) (ask-call site (room-of (now (roll .entry)))) grants (now (self .exit)) (M·Manager .meaning (now (self .exit) .manager) .status site) r × Rolled (now (roll .entry)) (now (roll .exit)) grants) ⌝ }
+    {
+        self.may_ask(site)?;
+        if roll.room() == 0 {
+            return Err(Refusal::RollFull);
+        }
+        let status = self.manager.ask(site)?;
+        self.note_ask(site);
+        if let Status::Holding = status {
+            let _ = roll.push(Grant { site, waited: 0 });
+        }
+        Ok(status)
+    }
+
+    // Ends a site's hold.
+    pub fn free(&mut self, site: usize) -> Result<(), Refusal>
+        ensures { λ r. ⌜ (Well M·Manager (records-of (now (self .entry))) → Outcome M·Manager (now (self .entry)) (free-call site) [] (now (self .exit)) tt r) ⌝ }
+    {
+        self.manager.free(site)?;
+        self.frees = self.frees.saturating_add(1);
+        Ok(())
+    }
+
+    // Carries out thing number k of those under way, and answers the site that came to hold, if one did: that is a grant.
+    pub fn step(&mut self, k: u64, roll: &mut Roll<'_, Grant>) -> Result<Option<usize>, Refusal>
+        ensures { λ r. ⌜ (Well M·Manager (records-of (now (self .entry))) → (site : Option ℕ) × (grants : List Grant) × Outcome M·Manager (now (self .entry)) (step-call k (room-of (now (roll .entry)))) grants (now (self .exit)) site r × Rolled (now (roll .entry)) (now (roll .exit)) grants × (r ≡ Ok site → grants ≡ grants-by-step M·Manager (records-of (now (self .entry))) site)) ⌝ }
+    {
+        self.may_step(k)?;
+        if roll.room() == 0 {
+            return Err(Refusal::RollFull);
+        }
+        let granted = self.manager.step(k)?;
+        self.steps = self.steps.saturating_add(1);
+        if let Some(site) = granted {
+            let waited = self.since_ask(site);
+            let _ = roll.push(Grant { site, waited });
+        }
+        Ok(granted)
+    }
+
     // The totals have reached the age at which a manager is worn out.
     fn worn(&self) -> bool
         ensures { λ r. ⌜ r ≡ leb limit (now (self .entry) .asks + now (self .entry) .frees + now (self .entry) .steps) ⌝ }
@@ -59,5 +102,19 @@ impl<M: Manager> Broker<M> {
             return Err(Refusal::NoThing);
         }
         Ok(())
+    }
+
+    // One more ask is carried out, by this site, with so many steps so far.
+    fn note_ask(&mut self, site: usize)
+        requires { ⌜ site < 64 ⌝ }
+        ensures manager { λ _. ⌜ now (self .exit) .manager ≡ now (self .entry) .manager ⌝ }
+        ensures asks { λ _. ⌜ now (self .exit) .asks ≡ min (now (self .entry) .asks + 1) (2 ^ 64 - 1) ⌝ }
+        ensures frees { λ _. ⌜ now (self .exit) .frees ≡ now (self .entry) .frees ⌝ }
+        ensures steps { λ _. ⌜ now (self .exit) .steps ≡ now (self .entry) .steps ⌝ }
+        ensures asked { λ _. ⌜ now (self .exit) .asked ≡ set (now (self .entry) .asked) site (now (self .entry) .steps) ⌝ }
+        ensures wide { λ _. ⌜ length (now (self .entry) .asked) ≡ 64 ⌝ }
+    {
+        self.asks = self.asks.saturating_add(1);
+        self.asked[site] = self.steps;
     }
 }

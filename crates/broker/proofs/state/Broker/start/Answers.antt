@@ -1,7 +1,8 @@
 use mathlib.Core.Path.{_≡_, refl}
 use borrow.Author.Needs.{needs}
 use Rattle.history.proofs.Every.{begun}
-use Rattle.broker.proofs.Begin.{accepted, fresh, ok-not-err}
+use Rattle.broker.proofs.Answering.{accepted, ok-not-err}
+use Rattle.broker.proofs.Begin.{fresh}
 use Rattle.broker.proofs.state.Broker.start.Needs as need
 
 pub returns : need.returns
