@@ -26,8 +26,9 @@ is-site m i h = cond-false (leb (m .sites) i) (Some NoSite) None (lt-leb (m .sit
 
 pub zeros : (n i : ℕ) → getD {A = ℕ} (replicate n 0) i 0 ≡ 0
 zeros n i = elim (cases-lt i n) [
-    inl h ↦ getD-replicate {A = ℕ} n i 0 0 h
-  | inr h ↦ getD-past {X = ℕ} (replicate n 0) i 0 (omega (arith, length-replicate {A = ℕ} n 0)) ]
+  | inl h ↦ getD-replicate {A = ℕ} n i 0 0 h
+  | inr h ↦ getD-past {X = ℕ} (replicate n 0) i 0 (omega (arith, length-replicate {A = ℕ} n 0))
+]
 
 -- All totals 0, and 0 steps at each site's ask.
 pub fresh : {S : Type 0} (m : S) → records-of (record { manager = m; asks = 0; frees = 0; steps = 0; asked = replicate 64 0 }) ≡ started m

@@ -57,9 +57,10 @@ module _ {S : Type 0} (kind : Kind S) (laws : Obeys kind) where
   -- The steps at each ask, after one more ask.
   asked-once-more : (xs : List ℕ) (i v : ℕ) → i < length xs → (j : ℕ) → getD (set xs i v) j 0 ≡ upd (λ k. getD xs k 0) i v j
   asked-once-more xs i v h j = elim (cases-eq j i) [
-      inl same ↦
-          ap (λ (k : ℕ). getD (set xs i v) k 0) same ∙ getD-set-same xs i v 0 h ∙ sym (ap (upd (λ k. getD xs k 0) i v) same ∙ upd-same (λ k. getD xs k 0) i v)
-    | inr other ↦ getD-set-other xs i j v 0 other ∙ sym (upd-other (λ k. getD xs k 0) i v j other) ]
+    | inl same ↦
+        ap (λ (k : ℕ). getD (set xs i v) k 0) same ∙ getD-set-same xs i v 0 h ∙ sym (ap (upd (λ k. getD xs k 0) i v) same ∙ upd-same (λ k. getD xs k 0) i v)
+    | inr other ↦ getD-set-other xs i j v 0 other ∙ sym (upd-other (λ k. getD xs k 0) i v j other)
+  ]
 
   -- The broker c is b with one more ask noted, and the manager m.
   pub record Noted (b : Broker S) (i : ℕ) (m : S) (c : Broker S) : Type 0 where

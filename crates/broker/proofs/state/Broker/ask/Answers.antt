@@ -48,10 +48,11 @@ returns-in-Holding g c w =
     let called = c .in-Continue-status .ensures tt (w .sound) in
     let free = λ (full : room-of roll ≡ 0). c .if-room-eq0 .left (c .room .ensures ∙ full) in
     let p = c .push .ensures in
-    let holds = sym (accepted-value _ _ _ (called .answers)) ∙ c .in-Holding .is in
-    ( grants-by-ask kind i m
-    , asked-outcome kind laws (c .args .self .now) (c .note-ask .last .self) i (room-of roll) m (c .in-Continue-status .status) w none free called (c .in-Continue-may-ask .ensures tt .site refl) (record { manager = n .manager; asks = n .asks; frees = n .frees; steps = n .steps; asked = n .asked; wide = n .wide })
-    , rw (granted-at-once kind laws i m holds) (rolled-push roll (c .push .last .self) (grant i 0) (not-full roll free) (p .contents) (p .grows) (p .memory) (p .lender)) )
+    let holds = sym (accepted-value _ _ _ (called .answers)) ∙ c .in-Holding .is in (
+      grants-by-ask kind i m,
+      asked-outcome kind laws (c .args .self .now) (c .note-ask .last .self) i (room-of roll) m (c .in-Continue-status .status) w none free called (c .in-Continue-may-ask .ensures tt .site refl) (record { manager = n .manager; asks = n .asks; frees = n .frees; steps = n .steps; asked = n .asked; wide = n .wide }),
+      rw (granted-at-once kind laws i m holds) (rolled-push roll (c .push .last .self) (grant i 0) (not-full roll free) (p .contents) (p .grows) (p .memory) (p .lender)),
+    )
 
 pub returns-in-rest : need.returns-in-rest
 returns-in-rest g c w =
@@ -64,7 +65,8 @@ returns-in-rest g c w =
     let none = accepted _ _ _ (c .in-Continue-may-ask .ensures tt .answers w) in
     let called = c .in-Continue-status .ensures tt (w .sound) in
     let free = λ (full : room-of roll ≡ 0). c .if-room-eq0 .left (c .room .ensures ∙ full) in
-    let waits = λ (h : kind .meaning m .status i ≡ Holding). c .in-rest .not-Holding (accepted-value _ _ _ (called .answers) ∙ h) in
-    ( grants-by-ask kind i m
-    , asked-outcome kind laws (c .args .self .now) (c .note-ask .last .self) i (room-of roll) m (c .in-Continue-status .status) w none free called (c .in-Continue-may-ask .ensures tt .site refl) (record { manager = n .manager; asks = n .asks; frees = n .frees; steps = n .steps; asked = n .asked; wide = n .wide })
-    , rw (not-granted kind laws i m waits) (rolled-none roll) )
+    let waits = λ (h : kind .meaning m .status i ≡ Holding). c .in-rest .not-Holding (accepted-value _ _ _ (called .answers) ∙ h) in (
+      grants-by-ask kind i m,
+      asked-outcome kind laws (c .args .self .now) (c .note-ask .last .self) i (room-of roll) m (c .in-Continue-status .status) w none free called (c .in-Continue-may-ask .ensures tt .site refl) (record { manager = n .manager; asks = n .asks; frees = n .frees; steps = n .steps; asked = n .asked; wide = n .wide }),
+      rw (not-granted kind laws i m waits) (rolled-none roll),
+    )
