@@ -29,10 +29,11 @@ const AGE_LIMIT: u64 = 1_000_000_000_000_000;
 impl<M: Manager> Broker<M> {
     // Asks for a site, and answers its status then. A site served there and then is a grant.
     pub fn ask(&mut self, site: usize, roll: &mut Roll<'_, Grant>) -> Result<Status, Refusal>
-        ensures { λ r. ⌜ (Well M·Manager (records-of (now (self .entry))) → (grants : List Grant) × Outcome M·Manager (now (self .entry)) (ask-call site (room-of (now (roll .entry)))) grants (now (self .exit)) (M·Manager .meaning (now (self .exit) .manager) .status site) r × Rolled (now (roll .entry)) (now (roll .exit)) grants) ⌝ }
+        ensures is_one_call { λ r. ⌜ (Well M·Manager (records-of (now (self .entry))) → (grants : List Grant) × Outcome M·Manager (now (self .entry)) (ask-call site (room-of (now (roll .entry)))) grants (now (self .exit)) (M·Manager .meaning (now (self .exit) .manager) .status site) r × Rolled (now (roll .entry)) (now (roll .exit)) grants) ⌝ }
     {
         self.may_ask(site)?;
-        if roll.room() == 0 {
+        let places = roll.room();
+        if places == 0 {
             return Err(Refusal::RollFull);
         }
         let status = self.manager.ask(site)?;
@@ -45,7 +46,7 @@ impl<M: Manager> Broker<M> {
 
     // Ends a site's hold.
     pub fn free(&mut self, site: usize) -> Result<(), Refusal>
-        ensures { λ r. ⌜ (Well M·Manager (records-of (now (self .entry))) → Outcome M·Manager (now (self .entry)) (free-call site) [] (now (self .exit)) tt r) ⌝ }
+        ensures is_one_call { λ r. ⌜ (Well M·Manager (records-of (now (self .entry))) → Outcome M·Manager (now (self .entry)) (free-call site) [] (now (self .exit)) tt r) ⌝ }
     {
         self.manager.free(site)?;
         self.frees = self.frees.saturating_add(1);
@@ -54,7 +55,7 @@ impl<M: Manager> Broker<M> {
 
     // Carries out thing number k of those under way, and answers the site that came to hold, if one did: that is a grant.
     pub fn step(&mut self, k: u64, roll: &mut Roll<'_, Grant>) -> Result<Option<usize>, Refusal>
-        ensures { λ r. ⌜ (Well M·Manager (records-of (now (self .entry))) → (site : Option ℕ) × (grants : List Grant) × Outcome M·Manager (now (self .entry)) (step-call k (room-of (now (roll .entry)))) grants (now (self .exit)) site r × Rolled (now (roll .entry)) (now (roll .exit)) grants × (r ≡ Ok site → grants ≡ grants-by-step M·Manager (records-of (now (self .entry))) site)) ⌝ }
+        ensures is_one_call { λ r. ⌜ (Well M·Manager (records-of (now (self .entry))) → (site : Option ℕ) × (grants : List Grant) × Outcome M·Manager (now (self .entry)) (step-call k (room-of (now (roll .entry)))) grants (now (self .exit)) site r × Rolled (now (roll .entry)) (now (roll .exit)) grants × (r ≡ Ok site → grants ≡ grants-by-step M·Manager (records-of (now (self .entry))) site)) ⌝ }
     {
         self.may_step(k)?;
         if roll.room() == 0 {

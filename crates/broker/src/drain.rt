@@ -18,7 +18,7 @@ use roll::list::Roll;
 impl<M: Manager> Broker<M> {
     // Carries out step 0 while something is under way, at most `bound` times.
     pub fn drain(&mut self, bound: u64, roll: &mut Roll<'_, Grant>) -> DrainReport
-        ensures { λ r. ⌜ (Well M·Manager (records-of (now (self .entry))) → (grants : List Grant) × Drained M·Manager (records-of (now (self .entry))) bound (room-of (now (roll .entry))) (r .steps) grants (r .stopped) (records-of (now (self .exit))) × Performed M·Manager (records-of (now (self .entry))) (drain-call bound (room-of (now (roll .entry)))) grants (records-of (now (self .exit))) × Rolled (now (roll .entry)) (now (roll .exit)) grants) ⌝ }
+        ensures is_one_call { λ r. ⌜ (Well M·Manager (records-of (now (self .entry))) → (grants : List Grant) × Drained M·Manager (records-of (now (self .entry))) bound (room-of (now (roll .entry))) (r .steps) grants (r .stopped) (records-of (now (self .exit))) × Performed M·Manager (records-of (now (self .entry))) (drain-call bound (room-of (now (roll .entry)))) grants (records-of (now (self .exit))) × Rolled (now (roll .entry)) (now (roll .exit)) grants) ⌝ }
     {
         let mut steps = 0;
         while self.manager.underway() > 0 {

@@ -18,7 +18,7 @@ use manager::status::Status;
 impl<M: Manager> Broker<M> {
     // The steps carried out since the site's ask, or 0 where it is not waiting.
     pub fn wait(&self, site: usize) -> Result<u64, Refusal>
-        ensures { λ r. ⌜ r ≡ wait-shown M·Manager (records-of (now (self .entry))) site ⌝ }
+        ensures shows_wait { λ r. ⌜ r ≡ wait-shown M·Manager (records-of (now (self .entry))) site ⌝ }
     {
         match self.manager.status(site)? {
             Status::Waiting => Ok(self.since_ask(site)),
@@ -31,7 +31,7 @@ impl<M: Manager> Broker<M> {
         ensures answers { λ r. ⌜ r ≡ answer (waits-refusal (M·Manager .meaning (now (self .entry) .manager)) (length (now (list .entry)))) tt ⌝ }
         ensures writes { λ r. ⌜ (r ≡ Ok tt → Listed (wait M·Manager (records-of (now (self .entry)))) (M·Manager .meaning (now (self .entry) .manager) .sites) (now (list .entry)) (now (list .exit))) ⌝ }
         ensures refused_leaves_all { λ r. ⌜ ((e : Refusal) → r ≡ Err e → now (list .exit) ≡ now (list .entry)) ⌝ }
-        ensures performed { λ _. ⌜ (Well M·Manager (records-of (now (self .entry))) → Performed M·Manager (records-of (now (self .entry))) (write-waits (length (now (list .entry)))) [] (records-of (now (self .entry)))) ⌝ }
+        ensures is_one_call { λ _. ⌜ (Well M·Manager (records-of (now (self .entry))) → Performed M·Manager (records-of (now (self .entry))) (write-waits (length (now (list .entry)))) [] (records-of (now (self .entry)))) ⌝ }
     {
         let sites = self.manager.sites();
         if list.len() < sites {

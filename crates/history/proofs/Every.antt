@@ -22,7 +22,7 @@ use Rattle.manager.specs.declared.refusal.Refusal.the-variants.{NoSite}
 use Rattle.manager.specs.declared.status.Status.{Status}
 use Rattle.manager.specs.declared.status.Status.the-variants.{Idle, Waiting, Holding}
 use Rattle.history.specs.Calls.{Call, Done, done, _and_, Does}
-use Rattle.history.specs.Histories.{History, Performed}
+use Rattle.history.specs.Histories.{History, Performed, Continues}
 use Rattle.history.specs.Histories.History.{begin, then}
 use Rattle.history.specs.Promise.{Kept, EveryHistory, Begun}
 use Rattle.history.specs.Records.{Kind, Records, Well, started, under}
@@ -120,3 +120,32 @@ module _ {S : Type 0} (kind : Kind S) (laws : Obeys kind) where
   -- A call that does what one call does is a step of a history.
   pub performed : {b : Records S} {call : Call} {e : Done} {gs : List Grant} {c : Records S} → Well kind b → Does kind b call e gs c → Performed kind b call gs c
   performed {e = e} w d = record { carried = e; does = d; well = moves kind laws w d .well }
+
+  pub continues-none : {b : Records S} → Well kind b → Continues kind b b
+  continues-none w = record { carried = done 0 0 0; history = begin; well = w }
+
+  pub continues-more : {a b c : Records S} {call : Call} {gs : List Grant} → Continues kind a b → Performed kind b call gs c → Continues kind a c
+  continues-more {call = call} h p = record { carried = h .carried and p .carried; history = then call (h .history) (p .does); well = p .well }
+
+  and-none : (d : Done) → d and done 0 0 0 ≡ d
+  and-none d =
+      let p : d .asks + 0 ≡ d .asks = omega arith in
+      let q : d .frees + 0 ≡ d .frees = omega arith in
+      let r : d .steps + 0 ≡ d .steps = omega arith in
+      λ k. done (p k) (q k) (r k)
+
+  and-assoc : (d e f : Done) → (d and e) and f ≡ d and (e and f)
+  and-assoc d e f =
+      let p : d .asks + e .asks + f .asks ≡ d .asks + (e .asks + f .asks) = omega arith in
+      let q : d .frees + e .frees + f .frees ≡ d .frees + (e .frees + f .frees) = omega arith in
+      let r : d .steps + e .steps + f .steps ≡ d .steps + (e .steps + f .steps) = omega arith in
+      λ k. done (p k) (q k) (r k)
+
+  joined : {a b c : Records S} {d e : Done} → History kind a d b → History kind b e c → History kind a (d and e) c
+  joined {a} {b} {d = d} h begin = subst (λ (x : Done). History kind a x b) (sym (and-none d)) h
+  joined {a} {d = d} h (then {d = e} {e = f} {c = c} call before does) =
+      subst (λ (x : Done). History kind a x c) (and-assoc d e f) (then call (joined h before) does)
+
+  -- One routine after another.
+  pub continues-onward : {a b c : Records S} → Continues kind a b → Continues kind b c → Continues kind a c
+  continues-onward h k = record { carried = h .carried and k .carried; history = joined (h .history) (k .history); well = k .well }

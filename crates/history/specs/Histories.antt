@@ -16,3 +16,9 @@ module _ {S : Type 0} (kind : Kind S) where
     pub carried : Done
     pub does : Does kind b call carried grants c
     pub well : Well kind c
+
+  -- A routine that makes calls on a broker goes on with its history.
+  pub record Continues (b c : Records S) : Type 0 where
+    pub carried : Done
+    pub history : History b carried c
+    pub well : Well kind c

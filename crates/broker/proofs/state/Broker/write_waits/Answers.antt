@@ -23,7 +23,7 @@ returns-then-list-sites g c =
       answers = sym (ap (λ o. answer o tt) refusal);
       writes = λ e. absurd (ok-not-err tt ShortWaitList (sym e));
       refused-leaves-all = λ e q. refl;
-      performed = λ w. performed kind (g .M·Manager·met .laws) w (is-refused ShortWaitList refusal);
+      is-one-call = λ w. performed kind (g .M·Manager·met .laws) w (is-refused ShortWaitList refusal);
     }
 
 pub returns : need.returns
@@ -38,5 +38,5 @@ returns g c =
       answers = sym (ap (λ o. answer o tt) none);
       writes = λ _. subst (λ (n : ℕ). Listed (wait kind (records-of (c .args .self .now))) n (c .args .list .now) (c .loop-site .list)) all (c .loop-site .inv);
       refused-leaves-all = λ e q. absurd (ok-not-err tt e q);
-      performed = λ w. performed kind (g .M·Manager·met .laws) w (writes-waits places none);
+      is-one-call = λ w. performed kind (g .M·Manager·met .laws) w (writes-waits places none);
     }
