@@ -6,7 +6,7 @@ use mathlib.Core.Logic.{_⊎_, inl, inr}
 use Prim.Native.Nat.{ℕ, _+_, _≤_, _<_}
 use native.Mathlib.Omega.{arith}
 use lib.Dec.{eqb}
-use Rattle.std.proofs.shelf.Tests.{and-parts, and-from, not-true, not-from-false}
+use Rattle.std.proofs.shelf.Tests.{and-parts, and-from, cases-bool, not-true, not-from-false}
 use Rattle.std.proofs.shelf.Ways.{tells}
 use Rattle.counting.specs.Sums.{one-if}
 use Rattle.counting.specs.Tables.{total}
@@ -79,6 +79,9 @@ module _ (s : State) (i : ℕ) where
       let none : is-held s ≡ false = any-none (λ j. is-holding (s .status j)) (s .sites) (λ j l h. free j l (holds-of (s .status j) h)) in
       let some : any (lets-pass s i) (s .sites) ≡ true = any-from (lets-pass s i) (s .sites) j l (and-from (is-waiting (s .status j)) (answered (s .stage j i)) (ap is-waiting w) a) in
       and-from (not (is-held s)) (any (lets-pass s i) (s .sites)) (not-from-false (is-held s) none) some
+
+pub held-unbarred : (s : State) (i j : ℕ) → j < s .sites → s .status j ≡ Holding → is-barred s i ≡ false
+held-unbarred s i j l h = elim (cases-bool (is-barred s i)) [ inl b ↦ absurd (barred-free s i b j l h) | inr b ↦ b ]
 
 -- Stamps are in a strict order, and no two sites have the same.
 module _ (s : State) where
