@@ -18,7 +18,7 @@ use Rattle.manager.specs.Meaning.{is-holding, is-waiting}
 use Rattle.manager.specs.declared.status.Status.{Status}
 use Rattle.manager.specs.declared.status.Status.the-variants.{Idle, Waiting, Holding}
 use Rattle.ricart_rules.specs.Invariant.{Sound}
-use Rattle.ricart_rules.specs.Reading.{is-called, is-held, lets-pass, is-barred}
+use Rattle.ricart_rules.specs.Reading.{is-called, is-held, yields-to, is-barred}
 use Rattle.ricart_rules.specs.Rules.{requests, replies, messages}
 use Rattle.ricart_rules.specs.State.{State, earlier, is-requested, is-deferred, is-replied, is-received, answered, lacks}
 use Rattle.ricart_rules.specs.declared.Stage.{Stage}
@@ -67,18 +67,18 @@ called-kept s s′ i n h kept c =
 -- Who is barred.
 module _ (s : State) (i : ℕ) where
   pub barred-free : is-barred s i ≡ true → (j : ℕ) → j < s .sites → s .status j ≡ Holding → ⊥
-  barred-free b j l h = none-any (λ j. is-holding (s .status j)) (s .sites) j (not-true (is-held s) (and-parts (not (is-held s)) (any (lets-pass s i) (s .sites)) b .0)) l (ap is-holding h)
+  barred-free b j l h = none-any (λ j. is-holding (s .status j)) (s .sites) j (not-true (is-held s) (and-parts (not (is-held s)) (any (yields-to s i) (s .sites)) b .0)) l (ap is-holding h)
 
   pub barred-some : is-barred s i ≡ true → (j : ℕ) × (j < s .sites) × (s .status j ≡ Waiting) × (answered (s .stage j i) ≡ true)
   barred-some b =
-      let w = any-some (lets-pass s i) (s .sites) (and-parts (not (is-held s)) (any (lets-pass s i) (s .sites)) b .1) in
+      let w = any-some (yields-to s i) (s .sites) (and-parts (not (is-held s)) (any (yields-to s i) (s .sites)) b .1) in
       (w .0, w .1, grind (arith, w .2), and-parts (is-waiting (s .status (w .0))) (answered (s .stage (w .0) i)) (w .2) .1)
 
   pub barred-from : ((j : ℕ) → j < s .sites → s .status j ≡ Holding → ⊥) → (j : ℕ) → j < s .sites → s .status j ≡ Waiting → answered (s .stage j i) ≡ true → is-barred s i ≡ true
   barred-from free j l w a =
       let none : is-held s ≡ false = any-none (λ j. is-holding (s .status j)) (s .sites) (λ j l h. free j l (holds-of (s .status j) h)) in
-      let some : any (lets-pass s i) (s .sites) ≡ true = any-from (lets-pass s i) (s .sites) j l (and-from (is-waiting (s .status j)) (answered (s .stage j i)) (ap is-waiting w) a) in
-      and-from (not (is-held s)) (any (lets-pass s i) (s .sites)) (not-from-false (is-held s) none) some
+      let some : any (yields-to s i) (s .sites) ≡ true = any-from (yields-to s i) (s .sites) j l (and-from (is-waiting (s .status j)) (answered (s .stage j i)) (ap is-waiting w) a) in
+      and-from (not (is-held s)) (any (yields-to s i) (s .sites)) (not-from-false (is-held s) none) some
 
 pub held-unbarred : (s : State) (i j : ℕ) → j < s .sites → s .status j ≡ Holding → is-barred s i ≡ false
 held-unbarred s i j l h = elim (cases-bool (is-barred s i)) [ inl b ↦ absurd (barred-free s i b j l h) | inr b ↦ b ]

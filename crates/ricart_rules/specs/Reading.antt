@@ -15,13 +15,13 @@ is-called s i = is-holding (s .status i) && any (λ j. is-deferred (s .stage j i
 abbrev pub is-held : State → Bool
 is-held s = any (λ j. is-holding (s .status j)) (s .sites)
 
--- Does j wait with the REPLY of i sent?
-abbrev pub lets-pass : State → (i j : ℕ) → Bool
-lets-pass s i j = is-waiting (s .status j) && answered (s .stage j i)
+-- Does j wait, and has i sent it a REPLY?
+abbrev pub yields-to : State → (i j : ℕ) → Bool
+yields-to s i j = is-waiting (s .status j) && answered (s .stage j i)
 
 -- A site is barred while no site holds and a site waits to which it has sent a REPLY.
 abbrev pub is-barred : State → ℕ → Bool
-is-barred s i = not (is-held s) && any (lets-pass s i) (s .sites)
+is-barred s i = not (is-held s) && any (yields-to s i) (s .sites)
 
 -- A REQUEST may bring a REPLY under way, so it is worth two.
 abbrev pub meaning-of : State → Meaning

@@ -14,12 +14,12 @@ use Rattle.ricart_rules.specs.State.{State, earlier, is-requested, is-deferred
 use Rattle.ricart_rules.specs.declared.Stage.{Stage}
 use Rattle.ricart_rules.specs.declared.Stage.the-variants.{Unasked, Requested, Deferred, Replied, Received}
 
--- The request of site i has come to stage x with each other site below n.
+-- The stages, but x for the request of site i with each other site below n.
 abbrev pub with-others : (n i : ℕ) → Stage → (ℕ → ℕ → Stage) → ℕ → ℕ → Stage
 with-others n i x stage a b = cond (eqb a i && (ltb b n && not (eqb b i))) x (stage a b)
 
--- n sites parked at g: it has the number 1 and every REPLY, every site has received the number 1 at most, and nothing
--- is under way.
+-- n sites parked at g: its number is 1 and it has every REPLY, the highest number of every site is 1, and nothing is
+-- under way. (The number of an idle site means nothing.)
 abbrev pub fresh : (n g : ℕ) → State
 fresh n g = record {
   sites = n;
