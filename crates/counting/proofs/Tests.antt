@@ -1,10 +1,10 @@
 -- The laws of searching the numbers below n: for one that passes a test, and for the least of those in some order.
 use mathlib.Core.Path.{_≡_, refl}
-use mathlib.Core.Bool.{Bool, true, false, _||_}
-use mathlib.Core.Logic.{_⊎_, inl, inr}
+use mathlib.Core.Bool.{Bool, true, false}
+use mathlib.Core.Logic.{inl, inr}
 use Prim.Native.Nat.{ℕ, zero, suc, _<_}
 use native.Mathlib.Omega.{arith}
-use Rattle.std.proofs.shelf.Tests.{or-cases, or-left, or-right, or-from, cases-eq, cases-bool, both-ways}
+use Rattle.std.proofs.shelf.Tests.{or-cases, or-left, or-right, cases-eq, cases-bool, both-ways}
 use Rattle.counting.specs.Tests.{any}
 
 pub any-some : (test : ℕ → Bool) (n : ℕ) → any test n ≡ true → (j : ℕ) × (j < n) × (test j ≡ true)

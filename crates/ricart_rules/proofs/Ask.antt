@@ -10,12 +10,12 @@ use Rattle.counting.specs.Tables.{total, row}
 use Rattle.counting.proofs.Sums.{upd-same, upd-other, sum-but-one}
 use Rattle.counting.proofs.Tables.{total-ext, total-row-change}
 use Rattle.manager.specs.Effects.{Asked}
-use Rattle.manager.specs.declared.status.Status.the-variants.{Idle, Waiting, Holding}
+use Rattle.manager.specs.declared.status.Status.the-variants.{Idle, Waiting}
 use Rattle.ricart_rules.specs.Invariant.{Sound}
 use Rattle.ricart_rules.specs.Reading.{meaning-of, is-barred}
 use Rattle.ricart_rules.specs.Rules.{asked, requests, replies}
 use Rattle.ricart_rules.specs.State.{State, earlier, is-deferred, answered, unanswered, reached, lacks}
-use Rattle.ricart_rules.specs.declared.Stage.the-variants.{Requested, Deferred, Received}
+use Rattle.ricart_rules.specs.declared.Stage.the-variants.{Requested, Deferred}
 use Rattle.ricart_rules.proofs.Facts.{lacks-some, lacks-from, called-holds, called-kept, barred-free, barred-some, barred-from, requests-most}
 
 module _ (s : State) (i : ℕ) (v : Sound s) (within : i < s .sites) (idle : s .status i ≡ Idle) where

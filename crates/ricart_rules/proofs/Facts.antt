@@ -2,13 +2,12 @@
 -- under way.
 use mathlib.Core.Path.{_≡_, refl, sym, ap}
 use mathlib.Core.Bool.{true, false, not, _&&_}
-use mathlib.Core.Logic.{_⊎_, inl, inr}
+use mathlib.Core.Logic.{inl, inr}
 use Prim.Native.Nat.{ℕ, _+_, _≤_, _<_}
 use native.Mathlib.Omega.{arith}
 use lib.Dec.{eqb}
 use Rattle.std.proofs.shelf.Tests.{and-parts, and-from, cases-bool, not-true, not-from-false}
 use Rattle.std.proofs.shelf.Ways.{tells}
-use Rattle.counting.specs.Sums.{one-if}
 use Rattle.counting.specs.Tables.{total}
 use Rattle.counting.specs.Tests.{any}
 use Rattle.counting.proofs.Sums.{one-if-most}
@@ -22,7 +21,7 @@ use Rattle.ricart_rules.specs.Reading.{is-called, is-held, yields-to, is-barre
 use Rattle.ricart_rules.specs.Rules.{requests, replies, messages}
 use Rattle.ricart_rules.specs.State.{State, earlier, is-requested, is-deferred, is-replied, is-received, answered, lacks}
 use Rattle.ricart_rules.specs.declared.Stage.{Stage}
-use Rattle.ricart_rules.specs.declared.Stage.the-variants.{Unasked, Requested, Deferred, Replied, Received}
+use Rattle.ricart_rules.specs.declared.Stage.the-variants.{Unasked, Deferred, Received}
 
 pub holds-of : (x : Status) → is-holding x ≡ true → x ≡ Holding
 holds-of x h = grind arith

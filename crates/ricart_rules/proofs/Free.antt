@@ -1,10 +1,8 @@
 -- A free at a holder keeps a state sound and does what a free has to do.
 use mathlib.Core.Path.{_≡_, refl, ap, _∙_}
 use mathlib.Core.Bool.{true}
-use mathlib.Core.Logic.{inl, inr}
 use Prim.Native.Nat.{ℕ, _+_, _-_, _≤_, _<_}
 use native.Mathlib.Omega.{arith}
-use Rattle.std.proofs.shelf.Tests.{cases-eq}
 use Rattle.std.proofs.shelf.Ways.{tells}
 use Rattle.counting.specs.Tables.{total, row}
 use Rattle.counting.proofs.Sums.{upd-same, upd-other, sum-but-one}
@@ -14,8 +12,7 @@ use Rattle.manager.specs.declared.status.Status.the-variants.{Idle, Waiting, Ho
 use Rattle.ricart_rules.specs.Invariant.{Sound}
 use Rattle.ricart_rules.specs.Reading.{meaning-of, is-called, is-barred}
 use Rattle.ricart_rules.specs.Rules.{freed, requests, replies}
-use Rattle.ricart_rules.specs.State.{State, answered, unanswered, reached, lacks}
-use Rattle.ricart_rules.specs.declared.Stage.the-variants.{Deferred, Replied}
+use Rattle.ricart_rules.specs.State.{State, answered, unanswered, lacks}
 use Rattle.ricart_rules.proofs.Facts.{lacks-some, lacks-from, called-some, barred-from, exclusive, replies-most}
 
 module _ (s : State) (i : ℕ) (v : Sound s) (within : i < s .sites) (holds : s .status i ≡ Holding) where
