@@ -34,9 +34,8 @@ accepted (Some r) a x e = absurd (let z : _≡_ {A = ℕ} 0 1 = cc in omega arit
 
 pub zeros : (n i : ℕ) → getD {A = ℕ} (replicate n 0) i 0 ≡ 0
 zeros n i = elim (cases-lt i n) [
-  | inl h ↦ getD-replicate {A = ℕ} n i 0 0 h
-  | inr h ↦ getD-past {X = ℕ} (replicate n 0) i 0 (omega (arith, length-replicate {A = ℕ} n 0))
-]
+    inl h ↦ getD-replicate {A = ℕ} n i 0 0 h
+  | inr h ↦ getD-past {X = ℕ} (replicate n 0) i 0 (omega (arith, length-replicate {A = ℕ} n 0)) ]
 
 pub ok-not-err : {A B : Type 0} (a : A) (b : B) → Ok a ≡ Err b → ⊥
 ok-not-err a b e = let z : _≡_ {A = ℕ} 0 1 = cc in omega arith

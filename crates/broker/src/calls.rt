@@ -20,8 +20,8 @@ use history::Grant;
 use manager::interface::Manager;
 use manager::refusal::Refusal;
 use manager::status::Status;
-use manager::status::StatusPartialEq;
 use roll::list::Roll;
+use manager::status::StatusPartialEq;
 
 const AGE_LIMIT: u64 = 1_000_000_000_000_000;
 
@@ -30,10 +30,7 @@ impl<M: Manager> Broker<M> {
     fn worn(&self) -> bool
         ensures { λ r. ⌜ r ≡ leb limit (now (self .entry) .asks + now (self .entry) .frees + now (self .entry) .steps) ⌝ }
     {
-        self.asks
-            .saturating_add(self.frees)
-            .saturating_add(self.steps)
-            >= AGE_LIMIT
+        self.asks.saturating_add(self.frees).saturating_add(self.steps) >= AGE_LIMIT
     }
 
     // What would refuse an ask, before the roll is looked at.

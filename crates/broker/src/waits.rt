@@ -57,7 +57,6 @@ impl<M: Manager> Broker<M> {
     pub(crate) fn since_ask(&self, site: usize) -> u64
         ensures { λ r. ⌜ r ≡ now (self .entry) .steps - getD (now (self .entry) .asked) site 0 ⌝ }
     {
-        self.steps
-            .saturating_sub(self.asked.get(site).copied().unwrap_or(0))
+        self.steps.saturating_sub(self.asked.get(site).copied().unwrap_or(0))
     }
 }

@@ -92,7 +92,6 @@ module _ {S : Type 0} (kind : Kind S) (laws : Obeys kind) (a : Records S) where
     where
       ⊎-pos : (n : ℕ) → (n ≡ 0 → ⊥) → 0 < n
       ⊎-pos n ne = omega arith
-
       nobody : (m : Meaning) (i : ℕ) → holder-shown m ≡ None → i < m .sites → m .status i ≡ Holding → ⊥
       nobody m i none within holds =
           let free = first-none (λ k. is-holding (m .status k)) (m .sites) i none within in
@@ -110,10 +109,8 @@ module _ {S : Type 0} (kind : Kind S) (laws : Obeys kind) where
     where
       now : kind .sound n × Parked (kind .meaning m) g (kind .meaning n)
       now = laws .parking m n g site did
-
       fine : Well kind (started n)
       fine = record { sound = now .0; counted = sym (now .1 .age) }
-
       here : Begun kind m g (started n)
       here = record { parked = did; anew = refl; well = fine; promised = every-history kind laws (started n) fine refl refl refl (now .1 .work) }
 

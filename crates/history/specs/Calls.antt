@@ -61,6 +61,7 @@ abbrev pub _and_ : Done → Done → Done
 d and e = done (d .asks + e .asks) (d .frees + e .frees) (d .steps + e .steps)
 
 infixl 60 _and_
+
 module _ {S : Type 0} (kind : Kind S) where
   -- A drain carries out step 0 while something is under way. It takes so many steps, grants the resource so, and ends
   -- with nothing under way or stops for a reason.
