@@ -8,7 +8,7 @@ use lib.Dec.{eqb}
 use Rattle.std.proofs.shelf.Tests.{eq-eqb, ne-eqb, cond-true, cond-false, and-left, and-right, and-from, cases-eq}
 use Rattle.counting.specs.Sums.{sum}
 use Rattle.counting.specs.Tables.{row, total, before, upd2}
-use Rattle.counting.proofs.Sums.{sum-ext, sum-change, sum-at, sum-none, sum-most}
+use Rattle.counting.proofs.Sums.{sum-ext, sum-change, sum-at, sum-none, sum-most, sum-zero, sum-add}
 
 pub upd2-same : {A : Type 0} (f : ℕ → ℕ → A) (i j : ℕ) (v : A) → upd2 f i j v i j ≡ v
 upd2-same f i j v = cond-true (eqb i i && eqb j j) v (f i j) (and-from (eqb i i) (eqb j j) (eq-eqb i i refl) (eq-eqb j j refl))
@@ -18,6 +18,16 @@ upd2-row f i j v a b ne = cond-false (eqb a i && eqb b j) v (f a b) (and-left (e
 
 pub upd2-column : {A : Type 0} (f : ℕ → ℕ → A) (i j : ℕ) (v : A) (a b : ℕ) → (b ≡ j → ⊥) → upd2 f i j v a b ≡ f a b
 upd2-column f i j v a b ne = cond-false (eqb a i && eqb b j) v (f a b) (and-right (eqb a i) (eqb b j) (ne-eqb b j ne))
+
+pub total-ext : (f g : ℕ → ℕ → ℕ) (n : ℕ) → ((a b : ℕ) → a < n → b < n → f a b ≡ g a b) → total f n ≡ total g n
+total-ext f g n e = sum-ext (row f n) (row g n) n (λ a h. sum-ext (f a) (g a) n (λ b k. e a b h k))
+
+pub total-zero : (f : ℕ → ℕ → ℕ) (n : ℕ) → ((a b : ℕ) → a < n → b < n → f a b ≡ 0) → total f n ≡ 0
+total-zero f n e = sum-zero (row f n) n (λ a h. sum-zero (f a) n (λ b k. e a b h k))
+
+pub total-add : (f g : ℕ → ℕ → ℕ) (n : ℕ) → total (λ a b. f a b + g a b) n ≡ total f n + total g n
+total-add f g n =
+    sum-ext (row (λ a b. f a b + g a b) n) (λ a. row f n a + row g n a) n (λ a h. sum-add (f a) (g a) n) ∙ sum-add (row f n) (row g n) n
 
 module _ (f g : ℕ → ℕ → ℕ) (n i : ℕ) (within : i < n) where
   -- Two tables that differ at most in row i.

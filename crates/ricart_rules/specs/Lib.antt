@@ -1,0 +1,4 @@
+pub mod Invariant
+pub mod Reading
+pub mod Rules
+pub mod State
