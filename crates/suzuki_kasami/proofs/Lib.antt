@@ -1,0 +1,5 @@
+pub mod Links
+pub mod Seeking
+pub mod Sending
+pub mod States
+pub mod Stored
