@@ -1,3 +1,4 @@
+pub mod Gathering
 pub mod Links
 pub mod Seeking
 pub mod Sending

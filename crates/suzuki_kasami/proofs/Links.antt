@@ -11,7 +11,10 @@ use Rattle.std.proofs.shelf.Lists.{getD-set-same, getD-set-other}
 use Rattle.std.proofs.shelf.Tests.{eqb-true, eq-eqb, ne-eqb, cond-false, and-left, and-right, not-false, cases-eq}
 use Rattle.std.specs.declared.option.Option.{Option}
 use Rattle.std.specs.declared.option.Option.the-variants.{Some, None}
+use Rattle.counting.specs.Tables.{upd2}
+use Rattle.counting.proofs.Tables.{upd2-same, upd2-row, upd2-column}
 use Rattle.suzuki_kasami.specs.Reading.{link-of}
+use Rattle.suzuki_kasami.proofs.States.{read-set2}
 
 one-row : (near apart : Bool) (v : ℕ) (old : Option ℕ) → (near ≡ false → old ≡ None) → (apart ≡ false → old ≡ None) → cond (near && (near && apart)) (Some v) None ≡ cond (near && apart) (Some v) old
 one-row true true v old far loop = refl
@@ -33,3 +36,33 @@ module _ (n : ℕ) (flags : List (List Bool)) (known : List (List ℕ)) (i : ℕ
         ap₂ (λ xs ys. cond (ltb b n && getD xs b false) (Some (getD ys a 0)) None) (getD-set-other flags i a row [] ne) (getD-set-other known i a (set (getD known i []) i v) [] ne)
         ∙ sym (ap (λ t. cond (t && (ltb b n && not (eqb b i))) (Some v) (link-of n flags known a b)) (ne-eqb a i ne))
   ]
+
+cleared : (here near flag : Bool) (v : ℕ) → cond (near && cond here false flag) (Some v) None ≡ cond here None (cond (near && flag) (Some v) None)
+cleared true true flag v = refl
+cleared true false flag v = refl
+cleared false near flag v = refl
+
+module _ (n : ℕ) (flags : List (List Bool)) (known : List (List ℕ)) (a b : ℕ) (sender : a < length flags) (receiver : b < length (getD flags a [])) (kept : b < length known) (wide : a < length (getD known b [])) where
+  abbrev numbers : ℕ → ℕ → ℕ
+  numbers x y = getD (getD known x []) y 0
+
+  -- The receiver keeps the larger number, which changes no site's own.
+  own-kept : (v : ℕ) → v ≡ max (numbers b a) (numbers a a) → (x : ℕ) → getD (getD (set known b (set (getD known b []) a v)) x []) x 0 ≡ numbers x x
+  own-kept v e x =
+      read-set2 known b a v 0 kept wide x x
+      ∙ elim (cases-eq x b) [
+        | inl p ↦ elim (cases-eq x a) [
+          | inl q ↦
+              let heard : numbers b a ≡ numbers x x = ap₂ numbers (sym p) (sym q) in
+              let own : numbers a a ≡ numbers x x = ap₂ numbers (sym q) (sym q) in
+              ap₂ (upd2 numbers b a v) p q ∙ upd2-same numbers b a v ∙ omega arith
+          | inr ne ↦ upd2-column numbers b a v x x ne
+        ]
+        | inr ne ↦ upd2-row numbers b a v x x ne
+      ]
+
+  -- The REQUEST is under way no longer.
+  pub links-received : (v : ℕ) → v ≡ max (getD (getD known b []) a 0) (getD (getD known a []) a 0) → (x y : ℕ) → link-of n (set flags a (set (getD flags a []) b false)) (set known b (set (getD known b []) a v)) x y ≡ upd2 (link-of n flags known) a b None x y
+  links-received v e x y =
+      ap₂ (λ f w. cond (ltb y n && f) (Some w) None) (read-set2 flags a b false false sender receiver x y) (own-kept v e x)
+      ∙ cleared (eqb x a && eqb y b) (ltb y n) (getD (getD flags x []) y false) (numbers x x)

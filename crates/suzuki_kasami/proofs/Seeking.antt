@@ -1,6 +1,7 @@
 -- What a search through the sites finds.
 use mathlib.Core.Path.{_≡_, refl, sym, ap, subst, _∙_}
 use mathlib.Core.Bool.{Bool, true, false, cond, not, _&&_, _||_}
+use mathlib.Core.List.{List, [], _∷_}
 use mathlib.Core.Logic.{_⊎_, inl, inr}
 use Prim.Native.Nat.{ℕ, zero, suc, _+_, _<_}
 use native.Mathlib.Numerals.{add-one}
@@ -10,26 +11,33 @@ use Rattle.std.proofs.shelf.Tests.{cond-true, cond-false, cases-eq}
 use Rattle.std.specs.declared.option.Option.{Option}
 use Rattle.std.specs.declared.option.Option.the-variants.{Some, None}
 use Rattle.manager.specs.Answers.{first}
-use Rattle.manager.specs.Meaning.{is-holding}
-use Rattle.manager.specs.declared.status.Status.{Status}
-use Rattle.manager.specs.declared.status.Status.the-variants.{Idle, Waiting, Holding}
-use Rattle.suzuki_rules.specs.Reading.{wanted}
+use Rattle.suzuki_rules.specs.Reading.{wanted, tokens-sent}
 use Rattle.suzuki_rules.specs.State.{State, has-token, wants}
+use Rattle.suzuki_rules.specs.Rules.{token-after}
+use Rattle.suzuki_rules.specs.declared.Token.{Token}
 use Rattle.suzuki_rules.specs.declared.Token.the-variants.{At, Sent}
+use Rattle.suzuki_kasami.specs.Waiting.{first-of}
 
 pub token-at : (s : State) (t i : ℕ) → s .token ≡ At t → eqb t i ≡ has-token s i
 token-at s t i e = ap (λ k. elim k [ At x ↦ eqb x i | Sent x ↦ false ]) (sym e)
 
-pub token-sent : (s : State) (t i : ℕ) → s .token ≡ Sent t → false ≡ has-token s i
-token-sent s t i e = ap (λ k. elim k [ At x ↦ eqb x i | Sent x ↦ false ]) (sym e)
+pub one-token : (s : State) (t : ℕ) → s .token ≡ Sent t → tokens-sent (s .token) ≡ 1
+one-token s t e = ap tokens-sent e
+
+pub token-next : (q : List ℕ) (t : Token) (j : ℕ) → Some j ≡ first-of q → Sent j ≡ token-after q t
+token-next [] t j e = cc
+token-next (k ∷ q) t j e = cc
+
+pub token-stays : (q : List ℕ) (t : Token) → None ≡ first-of q → t ≡ token-after q t
+token-stays [] t e = refl
+token-stays (k ∷ q) t e = cc
+
+pub rests-and-wants : {A : Type 0} (x y : A) (has idle : Bool) {wants wants′ : Bool} → wants ≡ wants′ → cond ((has && idle) && wants) x y ≡ cond (has && (idle && wants′)) x y
+rests-and-wants x y true idle e = ap (λ b. cond (idle && b) x y) e
+rests-and-wants x y false idle e = refl
 
 pub wanted-more : (s : State) (i n : ℕ) → wanted s i (n + 1) ≡ (wanted s i n || (wants s i n && not (eqb n i)))
 wanted-more s i n = rw add-one refl
-
-pub not-holding : (x : Status) → (x ≡ Holding → ⊥) → is-holding x ≡ false
-not-holding Idle ne = refl
-not-holding Waiting ne = refl
-not-holding Holding ne = absurd (ne refl)
 
 module _ (test : ℕ → Bool) where
   pub first-none : (n : ℕ) → first test n ≡ None → test n ≡ false → first test (n + 1) ≡ None

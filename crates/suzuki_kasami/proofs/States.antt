@@ -7,8 +7,8 @@ use Prim.Native.Nat.{ℕ, zero, suc, _+_, _-_, _≤_, _<_}
 use native.Mathlib.Omega.{arith}
 use lib.Dec.{eqb, ltb}
 use lib.ListN.{length, getD, set, replicate}
-use Rattle.std.proofs.shelf.Lists.{getD-set-same, getD-set-other, length-set, length-replicate}
-use Rattle.std.proofs.shelf.Tests.{cases-eq}
+use Rattle.std.proofs.shelf.Lists.{getD-set-same, getD-set-other, length-set, length-replicate, getD-past, set-past}
+use Rattle.std.proofs.shelf.Tests.{cases-eq, cases-lt}
 use Rattle.counting.specs.Sums.{upd}
 use Rattle.counting.specs.Tables.{upd2}
 use Rattle.counting.proofs.Sums.{upd-same, upd-other}
@@ -56,12 +56,22 @@ module _ {A : Type 0} where
     | inr ne ↦ getD-set-other xs i k v d ne ∙ sym (upd-other (λ j. getD xs j d) i v k ne)
   ]
 
+  -- The default can be written anywhere.
+  pub read-reset : (xs : List A) (i : ℕ) (d : A) (k : ℕ) → getD (set xs i d) k d ≡ upd (λ j. getD xs j d) i d k
+  read-reset xs i d k = elim (cases-lt i (length xs)) [
+    | inl h ↦ read-set xs i d d h k
+    | inr h ↦ ap (λ ys. getD ys k d) (set-past xs i d h) ∙ sym (elim (cases-eq k i) [
+      | inl e ↦ rw e (upd-same (λ j. getD xs j d) i d ∙ sym (getD-past xs i d h))
+      | inr ne ↦ upd-other (λ j. getD xs j d) i d k ne
+    ])
+  ]
+
   pub read-set2 : (t : List (List A)) (i j : ℕ) (v d : A) → i < length t → j < length (getD t i []) → (a b : ℕ) → getD (getD (set t i (set (getD t i []) j v)) a []) b d ≡ upd2 (λ x y. getD (getD t x []) y d) i j v a b
   read-set2 t i j v d h k a b = elim (cases-eq a i) [
     | inl e ↦ rw (e, getD-set-same t i (set (getD t i []) j v) [] h) (elim (cases-eq b j) [
-        | inl q ↦ rw q (getD-set-same (getD t i []) j v d k ∙ sym (upd2-same (λ x y. getD (getD t x []) y d) i j v))
-        | inr ne ↦ getD-set-other (getD t i []) j b v d ne ∙ sym (upd2-column (λ x y. getD (getD t x []) y d) i j v i b ne)
-      ])
+      | inl q ↦ rw q (getD-set-same (getD t i []) j v d k ∙ sym (upd2-same (λ x y. getD (getD t x []) y d) i j v))
+      | inr ne ↦ getD-set-other (getD t i []) j b v d ne ∙ sym (upd2-column (λ x y. getD (getD t x []) y d) i j v i b ne)
+    ])
     | inr ne ↦ ap (λ xs. getD xs b d) (getD-set-other t i a (set (getD t i []) j v) [] ne) ∙ sym (upd2-row (λ x y. getD (getD t x []) y d) i j v a b ne)
   ]
 

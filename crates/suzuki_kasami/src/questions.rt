@@ -2,6 +2,7 @@
 ghost use mathlib.Core.Path.{_≡_};
 ghost use Prim.Native.Nat.{_<_};
 ghost use Rattle.manager.specs.Answers.{holder-shown};
+ghost use Rattle.manager.specs.Meaning.{is-idle, is-holding};
 ghost use Rattle.suzuki_rules.specs.Reading.{meaning-of, is-called, wanted};
 ghost use Rattle.suzuki_rules.specs.State.{has-token, wants};
 ghost use Rattle.suzuki_kasami.specs.Reading.{state-of};
@@ -19,6 +20,20 @@ impl SuzukiKasami {
             Token::At(place) => place == site,
             Token::Sent(_) => false,
         }
+    }
+
+    pub(crate) fn is_idle(&self, site: usize) -> bool
+        requires { ⌜ site < 16 ⌝ }
+        ensures { λ r. ⌜ r ≡ is-idle (state-of (now (self .entry)) .status site) ⌝ }
+    {
+        self.status[site] == Status::Idle
+    }
+
+    pub(crate) fn is_holding(&self, site: usize) -> bool
+        requires { ⌜ site < 16 ⌝ }
+        ensures { λ r. ⌜ r ≡ is-holding (state-of (now (self .entry)) .status site) ⌝ }
+    {
+        self.status[site] == Status::Holding
     }
 
     // As far as one site knows, does the other wait?
@@ -47,7 +62,7 @@ impl SuzukiKasami {
         requires { ⌜ site < 16 ⌝ }
         ensures { λ r. ⌜ r ≡ is-called (state-of (now (self .entry))) site ⌝ }
     {
-        self.status[site] == Status::Holding && (!self.queue.is_empty() || self.wanted(site))
+        self.is_holding(site) && (!self.queue.is_empty() || self.wanted(site))
     }
 
     // The first site that holds.
@@ -55,7 +70,7 @@ impl SuzukiKasami {
         ensures { λ r. ⌜ r ≡ holder-shown (meaning-of (state-of (now (self .entry)))) ⌝ }
     {
         for site in 0..self.sites {
-            if self.status[site] == Status::Holding {
+            if self.is_holding(site) {
                 return Some(site);
             }
         }

@@ -1,6 +1,6 @@
 // What a step does: one of the things under way comes to where it goes.
 ghost use mathlib.Core.Path.{_≡_};
-ghost use mathlib.Core.Bool.{_&&_};
+ghost use mathlib.Core.Bool.{cond, _&&_};
 ghost use mathlib.Core.List.{[]};
 ghost use Prim.Native.Nat.{_+_, _<_};
 ghost use lib.ListN.{getD};
@@ -8,10 +8,11 @@ ghost use Rattle.manager.specs.Meaning.{limit, is-idle};
 ghost use Rattle.suzuki_rules.specs.Reading.{meaning-of};
 ghost use Rattle.suzuki_rules.specs.Rules.{received, arrived, Delivered};
 ghost use Rattle.suzuki_rules.specs.State.{has-token, wants};
+ghost use Rattle.suzuki_rules.specs.declared.Token.the-variants.{Sent};
+ghost use Rattle.suzuki_kasami.specs.Places.{place};
 ghost use Rattle.suzuki_kasami.specs.Reading.{state-of};
 use crate::state::SuzukiKasami;
 use manager::status::Status;
-use manager::status::StatusPartialEq;
 use suzuki_rules::Token;
 
 impl SuzukiKasami {
@@ -41,18 +42,30 @@ impl SuzukiKasami {
         let number = self.known[sender][sender];
         self.requests[sender][receiver] = false;
         self.known[receiver][sender] = self.known[receiver][sender].max(number);
-        if self.hands_over(receiver, sender) {
-            self.token = Token::Sent(sender);
-        }
+        let token = self.forwarded(receiver, sender);
+        self.token = token;
         self.age += 1;
     }
 
-    // Does the site have the token, is it idle, and does it know the other to wait?
-    fn hands_over(&self, site: usize, other: usize) -> bool
+    // The token, after a REQUEST of the other site came to this one: if it rests here and the other waits, it is sent there.
+    fn forwarded(&self, site: usize, other: usize) -> Token
         requires { ⌜ site < 16 ⌝ ∗ ⌜ other < 16 ⌝ }
-        ensures { λ r. ⌜ r ≡ (has-token (state-of (now (self .entry))) site && (is-idle (state-of (now (self .entry)) .status site) && wants (state-of (now (self .entry))) site other)) ⌝ }
+        ensures token { λ r. ⌜ r ≡ cond ((has-token (state-of (now (self .entry))) site && is-idle (state-of (now (self .entry)) .status site)) && wants (state-of (now (self .entry))) site other) (Sent other) (now (self .entry) .token) ⌝ }
+        ensures place { λ r. ⌜ place r < 16 ⌝ }
     {
-        self.has_token(site) && self.status[site] == Status::Idle && self.wants(site, other)
+        if self.rests_at(site) && self.wants(site, other) {
+            Token::Sent(other)
+        } else {
+            self.token
+        }
+    }
+
+    // Is the token at the site, with nobody to use it there?
+    fn rests_at(&self, site: usize) -> bool
+        requires { ⌜ site < 16 ⌝ }
+        ensures { λ r. ⌜ r ≡ (has-token (state-of (now (self .entry))) site && is-idle (state-of (now (self .entry)) .status site)) ⌝ }
+    {
+        self.has_token(site) && self.is_idle(site)
     }
 
     // The token comes to the site, which holds from then on.

@@ -1,5 +1,5 @@
 use Rattle.suzuki_kasami.specs.Reading.{state-of}
-use Rattle.suzuki_kasami.proofs.Seeking.{token-at, token-sent}
+use Rattle.suzuki_kasami.proofs.Seeking.{token-at}
 use Rattle.suzuki_kasami.proofs.state.SuzukiKasami.has_token.Needs as need
 
 pub returns-in-At : need.returns-in-At
