@@ -3,7 +3,7 @@ use mathlib.Core.Path.{_≡_, refl, sym, ap, ap₂, subst, _∙_}
 use mathlib.Core.Bool.{Bool, true, false, cond}
 use mathlib.Core.List.{List, [], _∷_, _++_}
 use mathlib.Core.Logic.{_⊎_, inl, inr}
-use Prim.Native.Nat.{ℕ, zero, suc, _+_, _-_, _≤_, _<_, max}
+use Prim.Native.Nat.{ℕ, zero, suc, _+_, _-_, _*_, _≤_, _<_, max}
 use native.Mathlib.Omega.{arith}
 use lib.Dec.{eqb, ltb}
 use lib.ListN.{length}
@@ -69,6 +69,18 @@ sum-add f g (suc n) = omega (arith, sum-add f g n)
 pub sum-ones : (n : ℕ) → sum (λ i. 1) n ≡ n
 sum-ones zero = refl
 sum-ones (suc n) = omega (arith, sum-ones n)
+
+-- Where each number counts for at most 1 and i for nothing, the sum is less than n.
+pub sum-but-one : (f : ℕ → ℕ) (n i : ℕ) → i < n → ((j : ℕ) → j < n → f j ≤ 1) → f i ≡ 0 → sum f n + 1 ≤ n
+sum-but-one f n i h most none =
+    let filled : sum (upd f i 1) n + f i ≡ sum f n + upd f i 1 i = sum-change f (upd f i 1) n i h (λ j b. upd-other f i 1 j) in
+    let small : sum (upd f i 1) n ≤ sum (λ j. 1) n = sum-le (upd f i 1) (λ j. 1) n (λ j b. grind (arith, tells, most)) in
+    omega (arith, upd-same f i 1, sum-ones n)
+
+-- Where each number counts for at most c, the sum is at most n times c.
+pub sum-most : (f : ℕ → ℕ) (c n : ℕ) → ((i : ℕ) → i < n → f i ≤ c) → sum f n ≤ n * c
+sum-most f c zero e = omega arith
+sum-most f c (suc n) e = omega (arith, sum-most f c n (λ i h. e i (omega arith)), e n (omega arith))
 
 pub one-if-most : (b : Bool) → one-if b ≤ 1
 one-if-most true = omega arith

@@ -2,13 +2,13 @@
 use mathlib.Core.Path.{_≡_, refl, sym, ap, _∙_}
 use mathlib.Core.Bool.{Bool, true, false, cond, _&&_}
 use mathlib.Core.Logic.{_⊎_, inl, inr}
-use Prim.Native.Nat.{ℕ, _+_, _≤_, _<_}
+use Prim.Native.Nat.{ℕ, _+_, _*_, _≤_, _<_}
 use native.Mathlib.Omega.{arith}
 use lib.Dec.{eqb}
 use Rattle.std.proofs.shelf.Tests.{eq-eqb, ne-eqb, cond-true, cond-false, and-left, and-right, and-from, cases-eq}
 use Rattle.counting.specs.Sums.{sum}
 use Rattle.counting.specs.Tables.{row, total, before, upd2}
-use Rattle.counting.proofs.Sums.{sum-ext, sum-change, sum-at}
+use Rattle.counting.proofs.Sums.{sum-ext, sum-change, sum-at, sum-none, sum-most}
 
 pub upd2-same : {A : Type 0} (f : ℕ → ℕ → A) (i j : ℕ) (v : A) → upd2 f i j v i j ≡ v
 upd2-same f i j v = cond-true (eqb i i && eqb j j) v (f i j) (and-from (eqb i i) (eqb j j) (eq-eqb i i refl) (eq-eqb j j refl))
@@ -36,3 +36,13 @@ module _ (f g : ℕ → ℕ → ℕ) (n i : ℕ) (within : i < n) where
 pub before-at : (f : ℕ → ℕ → ℕ) (n i j : ℕ) → i < n → j < n → before f n i j + f i j ≤ total f n
 before-at f n i j hi hj =
     omega (arith, sum-at (row f n) n i hi, sum-at (f i) n j hj)
+
+-- A total of nothing has nothing in its cells.
+pub total-none : (f : ℕ → ℕ → ℕ) (n i j : ℕ) → total f n ≡ 0 → i < n → j < n → f i j ≡ 0
+total-none f n i j e hi hj =
+    sum-none (f i) n j (sum-none (row f n) n i e hi) hj
+
+-- Where each cell counts for at most 1, the total is at most the number of cells.
+pub total-most : (f : ℕ → ℕ → ℕ) (n : ℕ) → ((i j : ℕ) → f i j ≤ 1) → total f n ≤ n * n
+total-most f n most =
+    sum-most (row f n) n n (λ i h. omega (arith, sum-most (f i) 1 n (λ j k. most i j)))
