@@ -1,3 +1,4 @@
+pub mod Accepted
 pub mod Gathering
 pub mod Links
 pub mod Seeking

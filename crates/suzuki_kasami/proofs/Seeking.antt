@@ -37,7 +37,7 @@ rests-and-wants x y true idle e = ap (λ b. cond (idle && b) x y) e
 rests-and-wants x y false idle e = refl
 
 pub wanted-more : (s : State) (i n : ℕ) → wanted s i (n + 1) ≡ (wanted s i n || (wants s i n && not (eqb n i)))
-wanted-more s i n = rw add-one refl
+wanted-more s i n = ap (wanted s i) (add-one n)
 
 module _ (test : ℕ → Bool) where
   pub first-none : (n : ℕ) → first test n ≡ None → test n ≡ false → first test (n + 1) ≡ None

@@ -1,7 +1,6 @@
 // What a manager tells of itself.
 ghost use mathlib.Core.Path.{_≡_};
 ghost use Prim.Native.Nat.{_<_};
-ghost use Rattle.manager.specs.Answers.{holder-shown};
 ghost use Rattle.manager.specs.Meaning.{is-idle, is-holding};
 ghost use Rattle.suzuki_rules.specs.Reading.{meaning-of, is-called, wanted};
 ghost use Rattle.suzuki_rules.specs.State.{has-token, wants};
@@ -65,15 +64,13 @@ impl SuzukiKasami {
         self.is_holding(site) && (!self.queue.is_empty() || self.wanted(site))
     }
 
-    // The first site that holds.
-    pub(crate) fn first_holder(&self) -> Option<usize>
-        ensures { λ r. ⌜ r ≡ holder-shown (meaning-of (state-of (now (self .entry)))) ⌝ }
+    // How many things are under way: the REQUESTs, and the token if it is.
+    pub(crate) fn things(&self) -> u64
+        ensures { λ r. ⌜ r ≡ meaning-of (state-of (now (self .entry))) .underway ⌝ }
     {
-        for site in 0..self.sites {
-            if self.is_holding(site) {
-                return Some(site);
-            }
+        match self.token {
+            Token::At(_) => self.sent(),
+            Token::Sent(_) => self.sent() + 1,
         }
-        None
     }
 }

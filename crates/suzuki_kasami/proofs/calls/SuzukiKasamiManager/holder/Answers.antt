@@ -3,7 +3,7 @@ use lib.ListN.{getD}
 use Rattle.manager.specs.Meaning.{is-holding}
 use Rattle.manager.specs.declared.status.Status.the-variants.{Idle}
 use Rattle.suzuki_kasami.proofs.Seeking.{first-none, first-here}
-use Rattle.suzuki_kasami.proofs.state.SuzukiKasami.first_holder.Needs as need
+use Rattle.suzuki_kasami.proofs.calls.SuzukiKasamiManager.holder.Needs as need
 
 pub returns-then-is-holding : need.returns-then-is-holding
 returns-then-is-holding c =
