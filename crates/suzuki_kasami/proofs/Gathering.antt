@@ -26,11 +26,18 @@ module _ (s : State) (i : ℕ) where
   gathered-append q (j ∷ xs) ys = gathered-append (noted s i q j) xs ys
 
   -- One more site after those gathered so far.
-  pub gathered-more : (q xs : List ℕ) (a k j : ℕ) → a + k ≡ j → gathered s i q (xs ++ range a (k + 1)) ≡ noted s i (gathered s i q (xs ++ range a k)) j
+  gathered-more : (q xs : List ℕ) (a k j : ℕ) → a + k ≡ j → gathered s i q (xs ++ range a (k + 1)) ≡ noted s i (gathered s i q (xs ++ range a k)) j
   gathered-more q xs a k j e =
       ap (λ ys. gathered s i q (xs ++ ys)) (range-more a k ∙ ap (λ x. range a k ++ (x ∷ [])) e)
       ∙ ap (gathered s i q) (sym (append-assoc xs (range a k) (j ∷ [])))
       ∙ gathered-append q (xs ++ range a k) (j ∷ [])
+
+  -- The step of a loop over a range, after what was gathered before it.
+  pub gathered-next : (q now next xs : List ℕ) (a k k′ j : ℕ) → k′ ≡ k + 1 → a + k ≡ j → now ≡ gathered s i q (xs ++ range a k) → next ≡ noted s i now j → next ≡ gathered s i q (xs ++ range a k′)
+  gathered-next q now next xs a k k′ j longer here so-far more =
+      more
+      ∙ ap (λ ys. noted s i ys j) so-far
+      ∙ sym (ap (λ n. gathered s i q (xs ++ range a n)) longer ∙ gathered-more q xs a k j here)
 
   module _ (few : s .sites ≤ 16) where
     -- A site that is not queued finds room.

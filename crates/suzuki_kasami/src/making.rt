@@ -1,6 +1,7 @@
 // How a manager is made, and how it begins anew.
 ghost use mathlib.Core.Path.{_≡_};
 ghost use Prim.Native.Nat.{_≤_, _<_};
+ghost use Rattle.suzuki_rules.specs.Invariant.{Sound};
 ghost use Rattle.suzuki_rules.specs.Rules.{fresh, made};
 ghost use Rattle.suzuki_kasami.specs.Reading.{state-of};
 use crate::queue::Queue;
@@ -11,7 +12,8 @@ use suzuki_rules::Token;
 impl SuzukiKasami {
     // A manager of as many sites as fit, parked at the last of them: fewer than 2 make 2, more than 16 make 16.
     pub fn new(sites: usize) -> SuzukiKasami
-        ensures { λ r. ⌜ state-of r ≡ made sites ⌝ }
+        ensures state { λ r. ⌜ state-of r ≡ made sites ⌝ }
+        ensures sound { λ r. ⌜ Sound (state-of r) ⌝ }
     {
         let sites = sites.clamp(2, 16);
         SuzukiKasami::parked(sites, sites - 1)

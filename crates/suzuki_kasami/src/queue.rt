@@ -11,7 +11,7 @@ ghost use Rattle.suzuki_kasami.specs.Waiting.{pushed, first-of};
 
 // Its sites stand in the first `len` places of `items`.
 #[derive(Clone, Copy)]
-pub struct Queue {
+pub(crate) struct Queue {
     items: [usize; 16],
     len: usize,
     ghost fits: { len ≤ 16 },
@@ -19,7 +19,7 @@ pub struct Queue {
 }
 
 impl Queue {
-    pub fn new() -> Queue
+    pub(crate) fn new() -> Queue
         ensures { λ r. ⌜ take (r .len) (r .items) ≡ [] ⌝ }
     {
         Queue {
@@ -28,14 +28,14 @@ impl Queue {
         }
     }
 
-    pub fn is_empty(&self) -> bool
+    pub(crate) fn is_empty(&self) -> bool
         ensures { λ r. ⌜ r ≡ empty (take (now (self .entry) .len) (now (self .entry) .items)) ⌝ }
     {
         self.len == 0
     }
 
     // Does the site stand in the queue?
-    pub fn contains(&self, site: usize) -> bool
+    pub(crate) fn contains(&self, site: usize) -> bool
         ensures { λ r. ⌜ r ≡ queued (take (now (self .entry) .len) (now (self .entry) .items)) site ⌝ }
     {
         for k in 0..self.len {
@@ -47,7 +47,7 @@ impl Queue {
     }
 
     // Adds a site at the end. A full queue stays as it is.
-    pub fn push(&mut self, site: usize)
+    pub(crate) fn push(&mut self, site: usize)
         requires { ⌜ site < 16 ⌝ }
         ensures { λ _. ⌜ take (now (self .exit) .len) (now (self .exit) .items) ≡ pushed (take (now (self .entry) .len) (now (self .entry) .items)) site ⌝ }
     {
@@ -58,7 +58,7 @@ impl Queue {
     }
 
     // Takes out the first site.
-    pub fn pop(&mut self) -> Option<usize>
+    pub(crate) fn pop(&mut self) -> Option<usize>
         ensures first { λ r. ⌜ r ≡ first-of (take (now (self .entry) .len) (now (self .entry) .items)) ⌝ }
         ensures rest { λ _. ⌜ take (now (self .exit) .len) (now (self .exit) .items) ≡ rest (take (now (self .entry) .len) (now (self .entry) .items)) ⌝ }
         ensures within { λ r. ⌜ Cases r (Unit {0}) (λ site. site < 16) ⌝ }

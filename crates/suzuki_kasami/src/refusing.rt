@@ -1,10 +1,9 @@
 // When a call is refused.
 ghost use mathlib.Core.Path.{_≡_};
-ghost use Prim.Native.Nat.{_<_};
-ghost use Rattle.std.specs.Results.{Cases};
+ghost use mathlib.Core.List.{[], _∷_};
 ghost use Rattle.manager.specs.Answers.{answer};
-ghost use Rattle.manager.specs.Meaning.{limit};
 ghost use Rattle.manager.specs.Refusals.{refused, site-order, ask-order, free-order, step-order};
+ghost use Rattle.manager.specs.declared.refusal.Refusal.the-variants.{Worn};
 ghost use Rattle.suzuki_rules.specs.Reading.{meaning-of};
 ghost use Rattle.suzuki_kasami.specs.Reading.{state-of};
 use crate::state::SuzukiKasami;
@@ -23,15 +22,20 @@ impl SuzukiKasami {
         Ok(())
     }
 
-    pub(crate) fn may_ask(&self, site: usize) -> Result<(), Refusal>
-        ensures { λ r. ⌜ r ≡ answer (refused ask-order (meaning-of (state-of (now (self .entry)))) site) tt ⌝ }
+    fn unworn(&self) -> Result<(), Refusal>
+        ensures { λ r. ⌜ r ≡ answer (refused (Worn ∷ []) (meaning-of (state-of (now (self .entry)))) 0) tt ⌝ }
     {
-        if site >= self.sites {
-            return Err(Refusal::NoSite);
-        }
         if self.age >= LIMIT {
             return Err(Refusal::Worn);
         }
+        Ok(())
+    }
+
+    pub(crate) fn may_ask(&self, site: usize) -> Result<(), Refusal>
+        ensures { λ r. ⌜ r ≡ answer (refused ask-order (meaning-of (state-of (now (self .entry)))) site) tt ⌝ }
+    {
+        self.named(site)?;
+        self.unworn()?;
         if !self.is_idle(site) {
             return Err(Refusal::NotIdle);
         }
@@ -41,12 +45,8 @@ impl SuzukiKasami {
     pub(crate) fn may_free(&self, site: usize) -> Result<(), Refusal>
         ensures { λ r. ⌜ r ≡ answer (refused free-order (meaning-of (state-of (now (self .entry)))) site) tt ⌝ }
     {
-        if site >= self.sites {
-            return Err(Refusal::NoSite);
-        }
-        if self.age >= LIMIT {
-            return Err(Refusal::Worn);
-        }
+        self.named(site)?;
+        self.unworn()?;
         if !self.is_holding(site) {
             return Err(Refusal::NotHolding);
         }
@@ -56,9 +56,7 @@ impl SuzukiKasami {
     pub(crate) fn may_step(&self, k: u64) -> Result<(), Refusal>
         ensures { λ r. ⌜ r ≡ answer (refused step-order (meaning-of (state-of (now (self .entry)))) k) tt ⌝ }
     {
-        if self.age >= LIMIT {
-            return Err(Refusal::Worn);
-        }
+        self.unworn()?;
         if k >= self.things() {
             return Err(Refusal::NoThing);
         }
