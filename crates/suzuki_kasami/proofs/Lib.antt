@@ -1,4 +1,5 @@
 pub mod Accepted
+pub mod Delivery
 pub mod Gathering
 pub mod Links
 pub mod Seeking

@@ -11,7 +11,7 @@ use Rattle.std.proofs.shelf.Tests.{cond-true, cond-false, cases-eq}
 use Rattle.std.specs.declared.option.Option.{Option}
 use Rattle.std.specs.declared.option.Option.the-variants.{Some, None}
 use Rattle.manager.specs.Answers.{first}
-use Rattle.suzuki_rules.specs.Reading.{wanted, tokens-sent}
+use Rattle.suzuki_rules.specs.Reading.{wanted}
 use Rattle.suzuki_rules.specs.State.{State, has-token, wants}
 use Rattle.suzuki_rules.specs.Rules.{token-after}
 use Rattle.suzuki_rules.specs.declared.Token.{Token}
@@ -21,16 +21,9 @@ use Rattle.suzuki_kasami.specs.Waiting.{first-of}
 pub token-at : (s : State) (t i : ℕ) → s .token ≡ At t → eqb t i ≡ has-token s i
 token-at s t i e = ap (λ k. elim k [ At x ↦ eqb x i | Sent x ↦ false ]) (sym e)
 
-pub one-token : (s : State) (t : ℕ) → s .token ≡ Sent t → tokens-sent (s .token) ≡ 1
-one-token s t e = ap tokens-sent e
-
-pub token-next : (q : List ℕ) (t : Token) (j : ℕ) → Some j ≡ first-of q → Sent j ≡ token-after q t
-token-next [] t j e = cc
-token-next (k ∷ q) t j e = cc
-
-pub token-stays : (q : List ℕ) (t : Token) → None ≡ first-of q → t ≡ token-after q t
-token-stays [] t e = refl
-token-stays (k ∷ q) t e = cc
+pub passed-to : (q : List ℕ) (t : Token) → elim (first-of q) [ Some j ↦ Sent j | None ↦ t ] ≡ token-after q t
+passed-to [] t = refl
+passed-to (k ∷ q) t = refl
 
 pub rests-and-wants : {A : Type 0} (x y : A) (has idle : Bool) {wants wants′ : Bool} → wants ≡ wants′ → cond ((has && idle) && wants) x y ≡ cond (has && (idle && wants′)) x y
 rests-and-wants x y true idle e = ap (λ b. cond (idle && b) x y) e

@@ -7,7 +7,7 @@ use native.Mathlib.Numerals.{add-one}
 use lib.Dec.{ltb}
 use lib.ListN.{getD}
 use mir.Val.{boolByte}
-use Rattle.std.proofs.shelf.Tests.{true≢false, cond-true, cond-false, and-from, and-right, lt-ltb}
+use Rattle.std.proofs.shelf.Tests.{true≢false, cond-false, and-right, lt-ltb}
 use Rattle.std.specs.declared.option.Option.the-variants.{Some, None}
 use Rattle.counting.specs.Sums.{sum, one-if}
 use Rattle.suzuki_rules.specs.Rules.{requests}
@@ -26,10 +26,6 @@ one-sent false flag v e = absurd (true≢false (sym e))
 pub cell-is : (m : SuzukiKasami) (a b : ℕ) → b < m .sites → requests (state-of m) a b ≡ one-if (getD (getD (m .requests) a []) b false)
 cell-is m a b h =
     one-sent (ltb b (m .sites)) (getD (getD (m .requests) a []) b false) (getD (getD (m .known) a []) a 0) (lt-ltb b (m .sites) h)
-
-pub a-link : (m : SuzukiKasami) (a b : ℕ) → b < m .sites → getD (getD (m .requests) a []) b false ≡ true → state-of m .link a b ≡ Some (getD (getD (m .known) a []) a 0)
-a-link m a b h e =
-    cond-true (ltb b (m .sites) && getD (getD (m .requests) a []) b false) (Some (getD (getD (m .known) a []) a 0)) None (and-from (ltb b (m .sites)) (getD (getD (m .requests) a []) b false) (lt-ltb b (m .sites) h) e)
 
 pub bit-is : (flag : Bool) → boolByte flag ≡ one-if flag
 bit-is true = refl

@@ -10,15 +10,18 @@ use crate::state::SuzukiKasami;
 use manager::status::Status;
 
 impl SuzukiKasami {
-    // The site that has the token holds there and then. Any other sends a REQUEST to all others.
-    pub(crate) fn request(&mut self, site: usize)
+    // The site that has the token holds there and then. Any other sends a REQUEST to all others. Answers its status then.
+    pub(crate) fn request(&mut self, site: usize) -> Status
         requires { ⌜ site < now self .sites ⌝ ∗ ⌜ now self .age < limit ⌝ }
-        ensures { λ _. ⌜ (Sound (state-of (now (self .entry))) → state-of (now (self .exit)) ≡ asked (state-of (now (self .entry))) site) ⌝ }
+        ensures state { λ _. ⌜ (Sound (state-of (now (self .entry))) → state-of (now (self .exit)) ≡ asked (state-of (now (self .entry))) site) ⌝ }
+        ensures status { λ r. ⌜ (Sound (state-of (now (self .entry))) → r ≡ state-of (now (self .exit)) .status site) ⌝ }
     {
         if self.has_token(site) {
             self.hold(site);
+            Status::Holding
         } else {
             self.send_requests(site);
+            Status::Waiting
         }
     }
 

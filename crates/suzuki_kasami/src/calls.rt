@@ -63,8 +63,7 @@ pub impl Manager for SuzukiKasami as SuzukiKasamiManager {
 
     fn ask(&mut self, site: usize) -> Result<Status, Refusal> {
         self.may_ask(site)?;
-        self.request(site);
-        Ok(self.status[site])
+        Ok(self.request(site))
     }
 
     fn free(&mut self, site: usize) -> Result<(), Refusal> {

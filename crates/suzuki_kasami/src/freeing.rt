@@ -1,9 +1,13 @@
 // What a free does.
 ghost use mathlib.Core.Path.{_≡_};
 ghost use Prim.Native.Nat.{_<_};
+ghost use Rattle.std.specs.Options.{Cases};
+ghost use Rattle.std.specs.declared.option.Option.the-variants.{Some, None};
 ghost use Rattle.manager.specs.Meaning.{limit};
 ghost use Rattle.suzuki_rules.specs.Invariant.{Sound};
 ghost use Rattle.suzuki_rules.specs.Rules.{freed, order};
+ghost use Rattle.suzuki_rules.specs.declared.Token.the-variants.{Sent};
+ghost use Rattle.suzuki_kasami.specs.Places.{place};
 ghost use Rattle.suzuki_kasami.specs.Reading.{state-of, waiting-list};
 ghost use Rattle.suzuki_kasami.specs.Waiting.{gathered, noted};
 use crate::queue::Queue;
@@ -18,14 +22,24 @@ impl SuzukiKasami {
         ensures { λ _. ⌜ (Sound (state-of (now (self .entry))) → state-of (now (self .exit)) ≡ freed (state-of (now (self .entry))) site) ⌝ }
     {
         let mut queue = self.search(site);
-        self.token = match queue.pop() {
-            Some(next) => Token::Sent(next),
-            None => self.token,
-        };
+        let token = self.passed_to(queue.pop());
+        self.token = token;
         self.queue = queue;
         self.served[site] = self.known[site][site];
         self.status[site] = Status::Idle;
         self.age += 1;
+    }
+
+    // The token, sent to the next site, if there is one.
+    fn passed_to(&self, next: Option<usize>) -> Token
+        requires { ⌜ Cases next (Unit {0}) (λ site. site < 16) ⌝ }
+        ensures token { λ r. ⌜ r ≡ elim next [ Some site ↦ Sent site | None ↦ now (self .entry) .token ] ⌝ }
+        ensures place { λ r. ⌜ place r < 16 ⌝ }
+    {
+        match next {
+            Some(site) => Token::Sent(site),
+            None => self.token,
+        }
     }
 
     // The queue with all others that the site knows to wait: those after it, then those before it.

@@ -4,14 +4,15 @@ use Prim.Native.Nat.{_≤_, _<_}
 use native.Mathlib.Omega.{arith}
 use lib.ListN.{length, getD}
 use borrow.Author.Needs.{needs}
+use Rattle.std.specs.declared.option.Option.the-variants.{Some, None}
 use Rattle.manager.specs.declared.status.Status.the-variants.{Idle}
 use Rattle.suzuki_rules.specs.Rules.{order, searched, token-after, rest}
+use Rattle.suzuki_rules.specs.declared.Token.the-variants.{Sent}
 use Rattle.suzuki_kasami.specs.Reading.{state-of, waiting-list}
 use Rattle.suzuki_kasami.proofs.Gathering.{gathered-sound}
-use Rattle.suzuki_kasami.proofs.Seeking.{token-next, token-stays}
+use Rattle.suzuki_kasami.proofs.Seeking.{passed-to}
 use Rattle.suzuki_kasami.proofs.States.{same-state, read-reset, read-set}
 use Rattle.suzuki_kasami.proofs.state.SuzukiKasami.release.Needs as need
-use Rattle.suzuki_kasami.proofs.state.SuzukiKasami.release.Needs.{in-Some, in-None}
 
 pub returns : need.returns
 returns c sound =
@@ -22,10 +23,7 @@ returns c sound =
     let fewer : m .sites ≤ 16 = m .most in
     let numbers : length (m .served) ≡ 16 = search needs in
     let all : found ≡ searched s i (s .queue) (order i (m .sites)) = c .search-queue .ensures ∙ gathered-sound s i sound (omega arith) in
-    let sent : c .match-pop .self ≡ token-after found (m .token) = elim (c .match-pop .came) [
-      | in-Some w ↦ w .self-is ∙ token-next found (m .token) (w .in-Some .next) (w .in-Some .ensures tt .first)
-      | in-None w ↦ w .self-is ∙ token-stays found (m .token) (w .in-None .ensures tt .first)
-    ] in
+    let sent : c .passed-to-token .result ≡ token-after found (m .token) = c .passed-to-token .ensures .token ∙ ap (λ o. elim o [ Some j ↦ Sent j | None ↦ m .token ]) (c .pop .ensures .first) ∙ passed-to found (m .token) in
     same-state _ _ record {
       sites = refl;
       status = read-reset (m .status) i Idle;

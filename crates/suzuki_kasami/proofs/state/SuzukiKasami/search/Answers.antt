@@ -11,7 +11,7 @@ loop-other-again c =
     let m = c .args .self .now in
     let i = c .args .site in
     let j = c .loop-other .other in
-    let after : i + 1 ≤ j = c .loop-other .kept .other in
+    let after : i + 1 ≤ j = omega arith in
     gathered-next (state-of m) i (waiting-list (m .queue)) (waiting-list (c .loop-other .queue)) (waiting-list (c .enqueue .last .queue)) [] (i + 1) (j - (i + 1)) (j + 1 - (i + 1)) j (omega arith) (omega arith) (c .loop-other .inv) (c .enqueue .ensures)
 
 pub loop-other-2-again : need.loop-other-2-again
