@@ -1,0 +1,8 @@
+pub mod Accepted
+pub mod Delivery
+pub mod Gathering
+pub mod Links
+pub mod Seeking
+pub mod Sending
+pub mod States
+pub mod Stored
