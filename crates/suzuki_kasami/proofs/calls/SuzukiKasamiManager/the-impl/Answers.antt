@@ -11,29 +11,20 @@ use Rattle.suzuki_kasami.specs.Reading.{state-of}
 use Rattle.suzuki_kasami.proofs.Accepted.{site-named, ask-accepted, free-accepted}
 use Rattle.suzuki_kasami.proofs.calls.SuzukiKasamiManager.the-impl.Needs as need
 
-pub bounded-law : need.bounded-law
-bounded-law m = bounded (state-of m) (m .fewest) (m .most) (m .young)
-
-pub lawful-law : need.lawful-law
-lawful-law m sound = lawful (state-of m) sound
-
-pub parking-law : need.parking-law
-parking-law m n g accepted parks =
-    let s = state-of m in
-    subst (λ t. Sound t × Parked (meaning-of s) g (meaning-of t)) (sym parks) (park-lawful s g (m .fewest) (m .most) (site-named (meaning-of s) g accepted))
-
-pub asking-law : need.asking-law
-asking-law m n i sound accepted asks =
-    let s = state-of m in
-    let known = ask-accepted (meaning-of s) i accepted in
-    subst (λ t. Sound t × Asked (meaning-of s) i (meaning-of t)) (sym asks) (ask-lawful s i sound (known .0) (known .1))
-
-pub freeing-law : need.freeing-law
-freeing-law m n i sound accepted frees =
-    let s = state-of m in
-    let known = free-accepted (meaning-of s) i accepted in
-    subst (λ t. Sound t × Freed (meaning-of s) i (meaning-of t)) (sym frees) (free-lawful s i sound (known .0) (known .1))
-
-pub stepping-law : need.stepping-law
-stepping-law m n k grant sound accepted steps =
-    step-lawful (state-of m) k grant (state-of n) sound steps
+pub laws-law : need.laws-law
+laws-law = record {
+  bounded = λ m. bounded (state-of m) (m .fewest) (m .most) (m .young);
+  lawful = λ m sound. lawful (state-of m) sound;
+  parking = λ m n g accepted parks.
+      let s = state-of m in
+      subst (λ t. Sound t × Parked (meaning-of s) g (meaning-of t)) (sym parks) (park-lawful s g (m .fewest) (m .most) (site-named (meaning-of s) g accepted));
+  asking = λ m n i sound accepted asks.
+      let s = state-of m in
+      let known = ask-accepted (meaning-of s) i accepted in
+      subst (λ t. Sound t × Asked (meaning-of s) i (meaning-of t)) (sym asks) (ask-lawful s i sound (known .0) (known .1));
+  freeing = λ m n i sound accepted frees.
+      let s = state-of m in
+      let known = free-accepted (meaning-of s) i accepted in
+      subst (λ t. Sound t × Freed (meaning-of s) i (meaning-of t)) (sym frees) (free-lawful s i sound (known .0) (known .1));
+  stepping = λ m n k grant sound accepted steps. step-lawful (state-of m) k grant (state-of n) sound steps;
+}
