@@ -4,19 +4,19 @@ use mathlib.Core.List.{List, [], _∷_, _++_}
 use mathlib.Core.Bool.{true, false, cond}
 use Prim.Native.Nat.{ℕ, _≤_, _<_}
 use native.Mathlib.Omega.{arith}
-use lib.Dec.{leb, ltb, eqb}
+use lib.Dec.{ltb, eqb}
 use Rattle.std.specs.declared.option.Option.{Option}
 use Rattle.std.specs.declared.option.Option.the-variants.{Some, None}
 use Rattle.std.specs.declared.result.Result.{Result}
 use Rattle.std.specs.declared.result.Result.the-variants.{Ok, Err}
-use Rattle.std.proofs.shelf.Tests.{leb-false, lt-ltb, le-ltb, eq-eqb, ne-eqb, cond-true, cond-false}
+use Rattle.std.proofs.shelf.Tests.{eqb-false, lt-ltb, le-ltb, cond-true, cond-false}
 use Rattle.manager.specs.Answers.{answer}
 use Rattle.manager.specs.Meaning.{Meaning}
-use Rattle.manager.specs.Refusals.{tried, refused, site-order}
+use Rattle.manager.specs.Refusals.{tried}
 use Rattle.manager.specs.declared.refusal.Refusal.{Refusal}
-use Rattle.manager.specs.declared.refusal.Refusal.the-variants.{NoSite, RollFull, ShortWaitList}
+use Rattle.manager.specs.declared.refusal.Refusal.the-variants.{RollFull, ShortWaitList}
 use Rattle.history.specs.Calls.{waits-refusal}
-use Rattle.history.proofs.Orders.{not-due, tried-none, tried-some}
+use Rattle.history.proofs.Orders.{not-due, tried-last}
 
 pub ok-not-err : {A B : Type 0} (a : A) (b : B) → Ok a ≡ Err b → ⊥
 ok-not-err a b e = let z : _≡_ {A = ℕ} 0 1 = cc in omega arith
@@ -41,17 +41,8 @@ short-list m places h = cond-true (ltb places (m .sites)) (Some ShortWaitList) N
 pub long-list : (m : Meaning) (places : ℕ) → m .sites ≤ places → waits-refusal m places ≡ None
 long-list m places h = cond-false (ltb places (m .sites)) (Some ShortWaitList) None (le-ltb places (m .sites) h)
 
--- The full roll is tried last: what refuses before it, a full roll, and one that is not.
-pub refused-first : (rs : List Refusal) (m : Meaning) (k room : ℕ) (e : Refusal) → tried rs m k room ≡ Some e → tried (rs ++ (RollFull ∷ [])) m k room ≡ Some e
-refused-first rs m k room e = tried-some rs (RollFull ∷ []) m k room e
-
-pub refused-full : (rs : List Refusal) (m : Meaning) (k room : ℕ) → tried rs m k room ≡ None → room ≡ 0 → tried (rs ++ (RollFull ∷ [])) m k room ≡ Some RollFull
-refused-full rs m k room none full =
-    tried-none rs (RollFull ∷ []) m k room none ∙ cond-true (eqb room 0) (Some RollFull) None (eq-eqb room 0 full)
-
-pub refused-none : (rs : List Refusal) (m : Meaning) (k room : ℕ) → tried rs m k room ≡ None → (room ≡ 0 → ⊥) → tried (rs ++ (RollFull ∷ [])) m k room ≡ None
-refused-none rs m k room none free =
-    tried-none rs (RollFull ∷ []) m k room none ∙ cond-false (eqb room 0) (Some RollFull) None (ne-eqb room 0 free)
-
-pub site-named : (m : Meaning) (i : ℕ) → refused site-order m i ≡ None → i < m .sites
-site-named m i e = leb-false (m .sites) i (not-due (leb (m .sites) i) NoSite None e .0)
+-- A roll that does not refuse an ask or a step has room.
+pub has-room : (rs : List Refusal) (m : Meaning) (k room : ℕ) → tried (rs ++ (RollFull ∷ [])) m k room ≡ None → room ≡ 0 → ⊥
+has-room rs m k room none full =
+    let last = not-due (eqb room 0) RollFull None (tried-last rs (RollFull ∷ []) m k room none) .0 in
+    eqb-false room 0 last full

@@ -1,14 +1,9 @@
-use mathlib.Core.Path.{_≡_, refl, sym, ap, _∙_}
-use Prim.Native.Nat.{_+_, _≤_}
-use native.Mathlib.Omega.{arith}
+use mathlib.Core.Path.{_≡_, ap, _∙_}
 use Rattle.std.specs.declared.result.Result.the-variants.{Err}
 use Rattle.std.proofs.shelf.Results.{err-from-errBy}
 use Rattle.history.specs.Calls.{free}
-use Rattle.history.specs.Calls.Does.{frees}
-use Rattle.history.specs.Records.{after-free}
-use Rattle.broker.specs.Reading.{records-of}
-use Rattle.broker.proofs.Answering.{accepted, refusing}
-use Rattle.broker.proofs.Outcomes.{refused-outcome, carried-outcome, totals-fit, one-more}
+use Rattle.broker.proofs.Answering.{refusing}
+use Rattle.broker.proofs.Outcomes.{refused-outcome, freed-outcome}
 use Rattle.broker.proofs.state.Broker.free.Needs as need
 
 pub returns-in-Break-free : need.returns-in-Break-free
@@ -27,13 +22,5 @@ returns-in-Break-free g c = record {
 pub returns : need.returns
 returns g c = record {
   is-one-call = λ w.
-      let kind = g .M·Manager in
-      let laws = g .M·Manager·met .laws in
-      let b = c .args .self .now in
-      let called = c .in-Continue-free .ensures tt (w .sound) in
-      let ok = accepted _ _ _ (called .answers) in
-      let more = c .saturating-add-self .ensures ∙ one-more kind laws (b .frees) (omega (arith, totals-fit kind laws (records-of b) w)) in
-      let m = c .free .last .self in
-      carried-outcome kind laws b (free (c .args .site)) _ _ tt _ (after-free kind (records-of b) m) w refl ok (frees (c .args .site) m ok (called .does ok))
-      (λ k. record { manager = m; asks = b .asks; frees = more k; steps = b .steps; asked = records-of b .asked });
+      freed-outcome (g .M·Manager) (g .M·Manager·met .laws) (c .args .self .now) (c .note-free .last .self) (c .args .site) (c .free .last .self) w (c .in-Continue-free .ensures tt (w .sound)) (c .note-free .ensures);
 }
