@@ -22,7 +22,7 @@ use Rattle.manager.specs.declared.refusal.Refusal.the-variants.{NoSite}
 use Rattle.manager.specs.declared.status.Status.{Status}
 use Rattle.manager.specs.declared.status.Status.the-variants.{Idle, Waiting, Holding}
 use Rattle.history.specs.Calls.{Call, Done, done, _and_, Does}
-use Rattle.history.specs.Histories.{History, Performed, Continues}
+use Rattle.history.specs.Histories.{History, Performed, Continues, GoesOn}
 use Rattle.history.specs.Histories.History.{begin, then}
 use Rattle.history.specs.Promise.{Kept, EveryHistory, Begun}
 use Rattle.history.specs.Records.{Kind, Records, Well, started, under}
@@ -121,11 +121,12 @@ module _ {S : Type 0} (kind : Kind S) (laws : Obeys kind) where
   pub performed : {b : Records S} {call : Call} {e : Done} {gs : List Grant} {c : Records S} → Well kind b → Does kind b call e gs c → Performed kind b call gs c
   performed {e = e} w d = record { carried = e; does = d; well = moves kind laws w d .well }
 
-  pub continues-none : {b : Records S} → Well kind b → Continues kind b b
-  continues-none w = record { carried = done 0 0 0; history = begin; well = w }
+  pub goes-nowhere : (b : Records S) → GoesOn kind b b
+  goes-nowhere b w = record { carried = done 0 0 0; history = begin; well = w }
 
-  pub continues-more : {a b c : Records S} {call : Call} {gs : List Grant} → Continues kind a b → Performed kind b call gs c → Continues kind a c
-  continues-more {call = call} h p = record { carried = h .carried and p .carried; history = then call (h .history) (p .does); well = p .well }
+  -- One call is a history of one step.
+  pub one-call : {b c : Records S} {call : Call} {gs : List Grant} → Performed kind b call gs c → Continues kind b c
+  one-call {call = call} p = record { carried = done 0 0 0 and p .carried; history = then call begin (p .does); well = p .well }
 
   and-none : (d : Done) → d and done 0 0 0 ≡ d
   and-none d =
@@ -147,5 +148,8 @@ module _ {S : Type 0} (kind : Kind S) (laws : Obeys kind) where
       subst (λ (x : Done). History kind a x c) (and-assoc d e f) (then call (joined h before) does)
 
   -- One routine after another.
-  pub continues-onward : {a b c : Records S} → Continues kind a b → Continues kind b c → Continues kind a c
-  continues-onward h k = record { carried = h .carried and k .carried; history = joined (h .history) (k .history); well = k .well }
+  pub goes-onward : {a b c : Records S} → GoesOn kind a b → GoesOn kind b c → GoesOn kind a c
+  goes-onward f k w =
+      let h = f w in
+      let more = k (h .well) in
+      record { carried = h .carried and more .carried; history = joined (h .history) (more .history); well = more .well }

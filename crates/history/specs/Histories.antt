@@ -22,3 +22,6 @@ module _ {S : Type 0} (kind : Kind S) where
     pub carried : Done
     pub history : History b carried c
     pub well : Well kind c
+
+  abbrev pub GoesOn : Records S → Records S → Type 0
+  GoesOn b c = Well kind b → Continues b c

@@ -1,7 +1,5 @@
 // Serving every site of a broker in rounds. All that is done is done by calls on the broker, so it goes on with its history.
-ghost use mathlib.Core.Path.{_≡_};
-ghost use Rattle.history.specs.Histories.{Continues};
-ghost use Rattle.history.specs.Records.{Well};
+ghost use Rattle.history.specs.Histories.{GoesOn};
 ghost use Rattle.broker.specs.Reading.{records-of};
 use broker::state::Broker;
 use history::Grant;
@@ -17,7 +15,7 @@ const MOST_STEPS: u64 = 10_000;
 
 // Goes on in rounds until every site has been served so often, or the roll is full.
 pub fn serve<M: Manager>(broker: &mut Broker<M>, roll: &mut Roll<'_, Grant>, turns: usize)
-    ensures goes_on { λ _. ⌜ (Well M·Manager (records-of (now (broker .entry))) → Continues M·Manager (records-of (now (broker .entry))) (records-of (now (broker .exit)))) ⌝ }
+    ensures goes_on { λ _. ⌜ GoesOn M·Manager (records-of (now (broker .entry))) (records-of (now (broker .exit))) ⌝ }
 {
     for _ in 0..MOST_ROUNDS {
         if all_served(broker, roll, turns) {
@@ -41,17 +39,24 @@ fn all_served<M: Manager>(broker: &Broker<M>, roll: &Roll<'_, Grant>, turns: usi
 
 // Asks for every site that is to be served again. One that waits or holds already refuses.
 fn ask_all<M: Manager>(broker: &mut Broker<M>, roll: &mut Roll<'_, Grant>, turns: usize)
-    ensures goes_on { λ _. ⌜ (Well M·Manager (records-of (now (broker .entry))) → Continues M·Manager (records-of (now (broker .entry))) (records-of (now (broker .exit)))) ⌝ }
+    ensures goes_on { λ _. ⌜ GoesOn M·Manager (records-of (now (broker .entry))) (records-of (now (broker .exit))) ⌝ }
 {
     for site in 0..broker.sites() {
-        if roll.count(site) < turns {
-            let _ = broker.ask(site, roll);
-        }
+        ask_again(broker, roll, site, turns);
+    }
+}
+
+// Asks for a site unless it has been served so often.
+fn ask_again<M: Manager>(broker: &mut Broker<M>, roll: &mut Roll<'_, Grant>, site: usize, turns: usize)
+    ensures goes_on { λ _. ⌜ GoesOn M·Manager (records-of (now (broker .entry))) (records-of (now (broker .exit))) ⌝ }
+{
+    if roll.count(site) < turns {
+        let _ = broker.ask(site, roll);
     }
 }
 
 fn free_holder<M: Manager>(broker: &mut Broker<M>)
-    ensures goes_on { λ _. ⌜ (Well M·Manager (records-of (now (broker .entry))) → Continues M·Manager (records-of (now (broker .entry))) (records-of (now (broker .exit)))) ⌝ }
+    ensures goes_on { λ _. ⌜ GoesOn M·Manager (records-of (now (broker .entry))) (records-of (now (broker .exit))) ⌝ }
 {
     if let Some(site) = broker.holder() {
         let _ = broker.free(site);
