@@ -47,7 +47,12 @@ fn ask_all<M: Manager>(broker: &mut Broker<M>, roll: &mut Roll<'_, Grant>, turns
 }
 
 // Asks for a site unless it has been served so often.
-fn ask_again<M: Manager>(broker: &mut Broker<M>, roll: &mut Roll<'_, Grant>, site: usize, turns: usize)
+fn ask_again<M: Manager>(
+    broker: &mut Broker<M>,
+    roll: &mut Roll<'_, Grant>,
+    site: usize,
+    turns: usize,
+)
     ensures goes_on { λ _. ⌜ GoesOn M·Manager (records-of (now (broker .entry))) (records-of (now (broker .exit))) ⌝ }
 {
     if roll.count(site) < turns {
