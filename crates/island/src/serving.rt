@@ -14,7 +14,7 @@ const MOST_ROUNDS: usize = 200;
 const MOST_STEPS: u64 = 10_000;
 
 // Goes on in rounds until every site has been served so often, or the roll is full.
-pub fn serve<M: Manager>(broker: &mut Broker<M>, roll: &mut Roll<'_, Grant>, turns: usize)
+pub(crate) fn serve<M: Manager>(broker: &mut Broker<M>, roll: &mut Roll<'_, Grant>, turns: usize)
     ensures goes_on { λ _. ⌜ GoesOn M·Manager (records-of (now (broker .entry))) (records-of (now (broker .exit))) ⌝ }
 {
     for _ in 0..MOST_ROUNDS {
