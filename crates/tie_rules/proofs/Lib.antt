@@ -1,0 +1,4 @@
+pub mod Barred
+pub mod Lawful
+pub mod Linked
+pub mod Views
