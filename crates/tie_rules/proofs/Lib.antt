@@ -1,6 +1,9 @@
 pub mod Barred
+pub mod First
 pub mod Kept
 pub mod Lawful
 pub mod Linked
+pub mod Moves
 pub mod Sites
+pub mod Tied
 pub mod Views

@@ -48,13 +48,14 @@ abbrev pub settled : Side → Bool
 settled a = isSome (first (λ i. is-holding (a .island .status i)) (a .gateway)) || a .island .barred (a .gateway)
 
 -- What a side adds to the moves that gateways can still make before a site of the tie holds and frees.
+abbrev pub weigh : Gateway → (settled : Bool) → ℕ
+weigh Out settled = 1
+weigh Coming settled = 0
+weigh In settled = cond settled 1 5
+weigh Leaving settled = cond settled 0 4
+
 abbrev pub weight : Side → ℕ
-weight a = elim (a .gate) [
-  | Out ↦ 1
-  | Coming ↦ 0
-  | In ↦ cond (settled a) 1 5
-  | Leaving ↦ cond (settled a) 0 4
-]
+weight a = weigh (a .gate) (settled a)
 
 -- The moves that gateways can still make: every move lowers them, and no step of a part raises them.
 abbrev pub moves : Side → Side → ℕ
