@@ -1,9 +1,11 @@
 pub mod Barred
+pub mod Calls
 pub mod First
 pub mod Kept
 pub mod Lawful
 pub mod Linked
 pub mod Moves
+pub mod Passing
 pub mod Sites
 pub mod Tied
 pub mod Views

@@ -9,7 +9,7 @@ use lib.Dec.{eqb}
 use Rattle.std.specs.declared.option.Option.{Option}
 use Rattle.std.specs.declared.option.Option.the-variants.{Some, None}
 use Rattle.std.proofs.shelf.Tests.{cases-eq, cond-both, eqb-true, eqb-false}
-use Rattle.manager.specs.Effects.{OthersKeep, CalledLasts, BarredLasts, Granted}
+use Rattle.manager.specs.Effects.{OthersKeep, CalledLasts, BarredLasts, Granted, Stepped}
 use Rattle.manager.specs.Meaning.{Meaning}
 use Rattle.manager.specs.declared.status.Status.the-variants.{Idle, Waiting, Holding}
 use Rattle.tie_rules.specs.Reading.{largest, lifted}
@@ -99,3 +99,15 @@ module _ (a b : Side) (o m o′ : Meaning) (g : Gateway) (t t′ : Meaning) (old
       cond-both (eqb i (a .gateway)) None (Some (i + a .offset)) (λ r. Granted t r t′) (λ e. all-keep (λ j own. keep j (omega (arith, v .sites)) (λ q. omega (arith, eqb-true i (a .gateway) e)))) (λ e.
       let own : Own a i = busy-own a o v i l (λ q. grind arith) (eqb-false i (a .gateway) e) in
       (w .here .within i own, w .here .status i own ∙ waits, w′ .here .status i own ∙ holds, others-keep (i + a .offset) (i, own, refl) (λ j own-j ne. keep j (omega (arith, v .sites)) ne)))
+
+  -- All that a step has to do.
+  pub tie-stepped : (r : Option ℕ) → m .toll ≡ a .island .toll → o′ .toll ≡ o .toll → Granted t r t′ → Kept a b o (at a m g) b o′ → Kept b a o b (at a m g) o′ → t′ .work + 1 ≤ t .work → Stepped t r t′
+  tie-stepped r toll outer-toll granted here there work = record {
+    sites = sites-same;
+    toll = toll-same toll outer-toll;
+    granted = granted;
+    called = tie-called-lasts here there;
+    barred = tie-barred-lasts here there;
+    work = work;
+    age = older;
+  }
