@@ -1,3 +1,5 @@
+pub mod Accepted
+pub mod Acting
 pub mod Barred
 pub mod Calls
 pub mod First
@@ -5,6 +7,7 @@ pub mod Kept
 pub mod Lawful
 pub mod Linked
 pub mod Moves
+pub mod Park
 pub mod Passing
 pub mod Sites
 pub mod Tied
