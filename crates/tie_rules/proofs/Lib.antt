@@ -12,3 +12,4 @@ pub mod Passing
 pub mod Sites
 pub mod Tied
 pub mod Views
+pub mod Whole
