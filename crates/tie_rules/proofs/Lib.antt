@@ -5,9 +5,11 @@ pub mod Calls
 pub mod First
 pub mod Kept
 pub mod Lawful
+pub mod Laws
 pub mod Linked
 pub mod Moves
 pub mod Park
+pub mod Parking
 pub mod Passing
 pub mod Sites
 pub mod Tied
