@@ -35,3 +35,11 @@ module _ (m : Meaning) (i : ℕ) where
 
   pub accepted-step : refused step-order m i ≡ None → m .age < limit
   accepted-step h = grind (arith, tells)
+
+-- Where the site is one and the manager is not worn, an ask or a free is refused for the site's status alone.
+module _ (m n : Meaning) (i j : ℕ) (site : i < m .sites) (site-there : j < n .sites) (young : m .age < limit) (young-there : n .age < limit) (same : m .status i ≡ n .status j) where
+  pub ask-refused-alike : refused ask-order m i ≡ refused ask-order n j
+  ask-refused-alike = grind (arith, tells)
+
+  pub free-refused-alike : refused free-order m i ≡ refused free-order n j
+  free-refused-alike = grind (arith, tells)

@@ -18,7 +18,7 @@ use Rattle.tie_rules.specs.declared.Gateway.the-variants.{Out, Coming, In, Lea
 use Rattle.tie_rules.proofs.Accepted.{ask-accepted, free-accepted, step-accepted}
 use Rattle.tie_rules.proofs.Calls.{ask-linked, ask-shown, free-linked, free-shown, step-linked, step-shown, outer-step-linked, outer-step-shown}
 use Rattle.tie_rules.proofs.Linked.{Linked}
-use Rattle.tie_rules.proofs.Passing.{stands-in, asking-linked, asking-shown, arriving-linked, arriving-shown, recalling-linked, recalling-shown, leaving-linked, leaving-shown}
+use Rattle.tie_rules.proofs.Passing.{Accepts, moves-accepted, asking-linked, asking-shown, arriving-linked, arriving-shown, recalling-linked, recalling-shown, leaving-linked, leaving-shown}
 use Rattle.tie_rules.proofs.Views.{On, Views}
 
 -- The laws that a kind of manager owes.
@@ -44,115 +44,76 @@ module _ {I O : Type 0} (ki : Kind I) (ko : Kind O) (li : Obeys ki) (lo : Obeys 
   abbrev a : Side
   a = part-side ki p gate post offset
 
-  pub ask-acts : (x : ℕ) (on : On a x) (p′ : I) → ki .meaning p .status (on .0) ≡ Idle → ki .asks p (on .0) p′ → Acted ki ko a b p o p′ gate o (λ t t′. Asked t x t′)
+  abbrev m : Meaning
+  m = ki .meaning p
+
+  abbrev n : Meaning
+  n = ko .meaning o
+
+  -- The island was called, or the outer manager was.
+  island-acted : (p′ : I) (g′ : Gateway) (effect : Meaning → Meaning → Type 0) → ki .sound p′ → ki .meaning p′ .sites ≡ m .sites → ki .meaning p′ .age ≡ m .age + 1 → Linked (at a (ki .meaning p′) g′) b n → ((t t′ : Meaning) (old : ℕ) → Views t a b n old → Views t′ (at a (ki .meaning p′) g′) b n (old + 1) → effect t t′) → Acted ki ko a b p o p′ g′ o effect
+  island-acted p′ g′ effect sound′ sites older linked shown = record {
+    sound = sound′;
+    outer-sound = outer-sound;
+    sites = sites;
+    age = omega arith;
+    outer-age = omega arith;
+    linked = linked;
+    shown = shown;
+  }
+
+  outer-acted : (g′ : Gateway) (o′ : O) → ko .sound o′ → ko .meaning o′ .age ≡ n .age + 1 → Linked (at a m g′) b (ko .meaning o′) → ((t t′ : Meaning) (old : ℕ) → Views t a b n old → Views t′ (at a m g′) b (ko .meaning o′) (old + 1) → Stepped t None t′) → Acted ki ko a b p o p g′ o′ (λ t t′. Stepped t None t′)
+  outer-acted g′ o′ sound′ older linked shown = record {
+    sound = sound;
+    outer-sound = sound′;
+    sites = refl;
+    age = omega arith;
+    outer-age = omega arith;
+    linked = linked;
+    shown = shown;
+  }
+
+  pub ask-acts : (x : ℕ) (on : On a x) (p′ : I) → m .status (on .0) ≡ Idle → ki .asks p (on .0) p′ → Acted ki ko a b p o p′ gate o (λ t t′. Asked t x t′)
   ask-acts x on p′ idle did =
-      let m = ki .meaning p′ in
-      let now = li .asking p p′ (on .0) sound (ask-accepted (ki .meaning p) (on .0) (omega (arith, on .1 .0)) young idle) did in
+      let now = li .asking p p′ (on .0) sound (ask-accepted m (on .0) (omega (arith, on .1 .0)) young idle) did in
       let lawful = li .lawful p′ (now .0) in
-      record {
-        sound = now .0;
-        outer-sound = outer-sound;
-        sites = now .1 .sites;
-        age = omega (arith, now .1 .age);
-        outer-age = omega arith;
-        linked = ask-linked a b (ko .meaning o) v m lawful x on (now .1);
-        shown = λ t t′ old w w′. ask-shown a b (ko .meaning o) v m lawful x on t t′ old w w′ (now .1);
-      }
+      island-acted p′ gate (λ t t′. Asked t x t′) (now .0) (now .1 .sites) (now .1 .age) (ask-linked a b n v (ki .meaning p′) lawful x on (now .1)) (λ t t′ old w w′. ask-shown a b n v (ki .meaning p′) lawful x on t t′ old w w′ (now .1))
 
-  pub free-acts : (x : ℕ) (on : On a x) (p′ : I) → ki .meaning p .status (on .0) ≡ Holding → ki .frees p (on .0) p′ → Acted ki ko a b p o p′ gate o (λ t t′. Freed t x t′)
+  pub free-acts : (x : ℕ) (on : On a x) (p′ : I) → m .status (on .0) ≡ Holding → ki .frees p (on .0) p′ → Acted ki ko a b p o p′ gate o (λ t t′. Freed t x t′)
   free-acts x on p′ holds did =
-      let m = ki .meaning p′ in
-      let now = li .freeing p p′ (on .0) sound (free-accepted (ki .meaning p) (on .0) (omega (arith, on .1 .0)) young holds) did in
+      let now = li .freeing p p′ (on .0) sound (free-accepted m (on .0) (omega (arith, on .1 .0)) young holds) did in
       let lawful = li .lawful p′ (now .0) in
-      record {
-        sound = now .0;
-        outer-sound = outer-sound;
-        sites = now .1 .sites;
-        age = omega (arith, now .1 .age);
-        outer-age = omega arith;
-        linked = free-linked a b (ko .meaning o) v m lawful x on (now .1) holds;
-        shown = λ t t′ old w w′. free-shown a b (ko .meaning o) v m lawful x on t t′ old w w′ (now .1) holds;
-      }
+      island-acted p′ gate (λ t t′. Freed t x t′) (now .0) (now .1 .sites) (now .1 .age) (free-linked a b n v (ki .meaning p′) lawful x on (now .1) holds) (λ t t′ old w w′. free-shown a b n v (ki .meaning p′) lawful x on t t′ old w w′ (now .1) holds)
 
-  pub step-acts : (k : ℕ) (g : Option ℕ) (p′ : I) → k < ki .meaning p .underway → ki .steps p k g p′ → Acted ki ko a b p o p′ gate o (λ t t′. Stepped t (lifted (a .gateway) offset g) t′)
+  pub step-acts : (k : ℕ) (g : Option ℕ) (p′ : I) → k < m .underway → ki .steps p k g p′ → Acted ki ko a b p o p′ gate o (λ t t′. Stepped t (lifted (a .gateway) offset g) t′)
   step-acts k g p′ l did =
-      let m = ki .meaning p′ in
-      let now = li .stepping p p′ k g sound (step-accepted (ki .meaning p) k l young) did in
+      let now = li .stepping p p′ k g sound (step-accepted m k l young) did in
       let lawful = li .lawful p′ (now .0) in
-      record {
-        sound = now .0;
-        outer-sound = outer-sound;
-        sites = now .1 .sites;
-        age = omega (arith, now .1 .age);
-        outer-age = omega arith;
-        linked = step-linked a b (ko .meaning o) v m lawful g (now .1);
-        shown = step-shown a b (ko .meaning o) v m lawful g (now .1);
-      }
+      island-acted p′ gate (λ t t′. Stepped t (lifted (a .gateway) offset g) t′) (now .0) (now .1 .sites) (now .1 .age) (step-linked a b n v (ki .meaning p′) lawful g (now .1)) (step-shown a b n v (ki .meaning p′) lawful g (now .1))
 
-  pub outer-step-acts : (k : ℕ) (g : Option ℕ) (o′ : O) → k < ko .meaning o .underway → ko .steps o k g o′ → Acted ki ko a b p o p gate o′ (λ t t′. Stepped t None t′)
+  pub outer-step-acts : (k : ℕ) (g : Option ℕ) (o′ : O) → k < n .underway → ko .steps o k g o′ → Acted ki ko a b p o p gate o′ (λ t t′. Stepped t None t′)
   outer-step-acts k g o′ l did =
-      let now = lo .stepping o o′ k g outer-sound (step-accepted (ko .meaning o) k l outer-young) did in
+      let now = lo .stepping o o′ k g outer-sound (step-accepted n k l outer-young) did in
       let lawful = lo .lawful o′ (now .0) in
-      record {
-        sound = sound;
-        outer-sound = now .0;
-        sites = refl;
-        age = omega arith;
-        outer-age = omega (arith, now .1 .age);
-        linked = outer-step-linked a b (ko .meaning o) v (ko .meaning o′) lawful g (now .1);
-        shown = outer-step-shown a b (ko .meaning o) v (ko .meaning o′) lawful g (now .1);
-      }
+      outer-acted gate o′ (now .0) (now .1 .age) (outer-step-linked a b n v (ko .meaning o′) lawful g (now .1)) (outer-step-shown a b n v (ko .meaning o′) lawful g (now .1))
 
-  -- The gateway is a site of its island.
-  gateway-site : a .gateway < ki .meaning p .sites
-  gateway-site = omega (arith, v .here .sites)
+  accepts : Accepts a n
+  accepts = moves-accepted a n (v .here) young outer-young
 
   pub pass-acts : {p′ : I} {g′ : Gateway} {o′ : O} → Passes ki ko post p gate o p′ g′ o′ → Acted ki ko a b p o p′ g′ o′ (λ t t′. Stepped t None t′)
   pass-acts (asks-outer {o′} out called did) =
-      let now = lo .asking o o′ post outer-sound (ask-accepted (ko .meaning o) post (v .here .post) outer-young (stands-in a (ko .meaning o) Out (v .here) out .1)) did in
+      let now = lo .asking o o′ post outer-sound (accepts .out out) did in
       let lawful = lo .lawful o′ (now .0) in
-      record {
-        sound = sound;
-        outer-sound = now .0;
-        sites = refl;
-        age = omega arith;
-        outer-age = omega (arith, now .1 .age);
-        linked = asking-linked a b (ko .meaning o) v (ko .meaning o′) lawful out called (now .1);
-        shown = asking-shown a b (ko .meaning o) v (ko .meaning o′) lawful out called (now .1);
-      }
+      outer-acted Coming o′ (now .0) (now .1 .age) (asking-linked a b n v (ko .meaning o′) lawful out called (now .1)) (asking-shown a b n v (ko .meaning o′) lawful out called (now .1))
   pass-acts (frees-island {p′} coming holds did) =
-      let now = li .freeing p p′ (a .gateway) sound (free-accepted (ki .meaning p) (a .gateway) gateway-site young (stands-in a (ko .meaning o) Coming (v .here) coming .0)) did in
+      let now = li .freeing p p′ (a .gateway) sound (accepts .coming coming) did in
       let lawful = li .lawful p′ (now .0) in
-      record {
-        sound = now .0;
-        outer-sound = outer-sound;
-        sites = now .1 .sites;
-        age = omega (arith, now .1 .age);
-        outer-age = omega arith;
-        linked = arriving-linked a b (ko .meaning o) v (ki .meaning p′) lawful coming holds (now .1);
-        shown = arriving-shown a b (ko .meaning o) v (ki .meaning p′) lawful coming holds (now .1);
-      }
+      island-acted p′ In (λ t t′. Stepped t None t′) (now .0) (now .1 .sites) (now .1 .age) (arriving-linked a b n v (ki .meaning p′) lawful coming holds (now .1)) (arriving-shown a b n v (ki .meaning p′) lawful coming holds (now .1))
   pass-acts (asks-island {p′} came called did) =
-      let now = li .asking p p′ (a .gateway) sound (ask-accepted (ki .meaning p) (a .gateway) gateway-site young (stands-in a (ko .meaning o) In (v .here) came .0)) did in
+      let now = li .asking p p′ (a .gateway) sound (accepts .came came) did in
       let lawful = li .lawful p′ (now .0) in
-      record {
-        sound = now .0;
-        outer-sound = outer-sound;
-        sites = now .1 .sites;
-        age = omega (arith, now .1 .age);
-        outer-age = omega arith;
-        linked = recalling-linked a b (ko .meaning o) v (ki .meaning p′) lawful came called (now .1);
-        shown = recalling-shown a b (ko .meaning o) v (ki .meaning p′) lawful came called (now .1);
-      }
+      island-acted p′ Leaving (λ t t′. Stepped t None t′) (now .0) (now .1 .sites) (now .1 .age) (recalling-linked a b n v (ki .meaning p′) lawful came called (now .1)) (recalling-shown a b n v (ki .meaning p′) lawful came called (now .1))
   pass-acts (frees-outer {o′} leaving holds did) =
-      let now = lo .freeing o o′ post outer-sound (free-accepted (ko .meaning o) post (v .here .post) outer-young (stands-in a (ko .meaning o) Leaving (v .here) leaving .1)) did in
+      let now = lo .freeing o o′ post outer-sound (accepts .leaving leaving) did in
       let lawful = lo .lawful o′ (now .0) in
-      record {
-        sound = sound;
-        outer-sound = now .0;
-        sites = refl;
-        age = omega arith;
-        outer-age = omega (arith, now .1 .age);
-        linked = leaving-linked a b (ko .meaning o) v (ko .meaning o′) lawful leaving holds (now .1);
-        shown = leaving-shown a b (ko .meaning o) v (ko .meaning o′) lawful leaving holds (now .1);
-      }
+      outer-acted Out o′ (now .0) (now .1 .age) (leaving-linked a b n v (ko .meaning o′) lawful leaving holds (now .1)) (leaving-shown a b n v (ko .meaning o′) lawful leaving holds (now .1))

@@ -11,6 +11,8 @@ pub mod Moves
 pub mod Park
 pub mod Parking
 pub mod Passing
+pub mod Questions
+pub mod Refused
 pub mod Sites
 pub mod Tied
 pub mod Views

@@ -6,12 +6,14 @@ use native.Mathlib.Omega.{arith}
 use Rattle.std.specs.declared.option.Option.the-variants.{None}
 use Rattle.manager.specs.Effects.{Asked, Freed, Stepped}
 use Rattle.manager.specs.Laws.{Lawful}
-use Rattle.manager.specs.Meaning.{Meaning}
+use Rattle.manager.specs.Meaning.{Meaning, limit}
+use Rattle.manager.specs.Refusals.{refused, ask-order, free-order}
 use Rattle.manager.specs.declared.status.Status.the-variants.{Idle, Waiting, Holding}
 use Rattle.tie_rules.specs.Invariant.{StandsAt}
 use Rattle.tie_rules.specs.Sides.{Side, at, inside}
 use Rattle.tie_rules.specs.declared.Gateway.{Gateway}
 use Rattle.tie_rules.specs.declared.Gateway.the-variants.{Out, Coming, In, Leaving}
+use Rattle.tie_rules.proofs.Accepted.{ask-accepted, free-accepted}
 use Rattle.tie_rules.proofs.Kept.{island-here, island-there, outer-here, arrives-here, arrives-there, leaves-here, leaves-there}
 use Rattle.tie_rules.proofs.Linked.{Sided, Linked, linked-turned}
 use Rattle.tie_rules.proofs.Moves.{settled-lasts, asking-moves, arriving-moves, recalling-moves, leaving-moves}
@@ -22,6 +24,23 @@ use Rattle.tie_rules.proofs.Views.{Views}
 -- What a gateway known to be in state g says.
 pub stands-in : (a : Side) (o : Meaning) (g : Gateway) → Sided a o → a .gate ≡ g → StandsAt g (a .island) (a .gateway) o (a .post)
 stands-in a o g v e = rw e at (v .stands)
+
+-- The call of a gateway's due move is accepted, whatever its state.
+pub record Accepts (a : Side) (o : Meaning) : Type 0 where
+  pub out : a .gate ≡ Out → refused ask-order o (a .post) ≡ None
+  pub coming : a .gate ≡ Coming → refused free-order (a .island) (a .gateway) ≡ None
+  pub came : a .gate ≡ In → refused ask-order (a .island) (a .gateway) ≡ None
+  pub leaving : a .gate ≡ Leaving → refused free-order o (a .post) ≡ None
+
+pub moves-accepted : (a : Side) (o : Meaning) → Sided a o → a .island .age < limit → o .age < limit → Accepts a o
+moves-accepted a o v young outer-young =
+    let site : a .gateway < a .island .sites = omega (arith, v .sites) in
+    record {
+      out = λ e. ask-accepted o (a .post) (v .post) outer-young (stands-in a o Out v e .1);
+      coming = λ e. free-accepted (a .island) (a .gateway) site young (stands-in a o Coming v e .0);
+      came = λ e. ask-accepted (a .island) (a .gateway) site young (stands-in a o In v e .0);
+      leaving = λ e. free-accepted o (a .post) (v .post) outer-young (stands-in a o Leaving v e .1);
+    }
 
 module _ (a b : Side) (o : Meaning) (v : Linked a b o) where
   away : b .post ≡ a .post → ⊥
