@@ -1,15 +1,12 @@
 -- When a manager's call is accepted: its refusals, tried in order, are all undue.
-use mathlib.Core.Path.{_≡_, refl}
-use mathlib.Core.Bool.{Bool, true, false, cond, not}
-use Prim.Native.Nat.{ℕ, _≤_, _<_}
+use mathlib.Core.Path.{_≡_}
+use Prim.Native.Nat.{ℕ, _<_}
 use native.Mathlib.Omega.{arith}
-use lib.Dec.{leb}
-use Rattle.std.specs.declared.option.Option.{Option}
-use Rattle.std.specs.declared.option.Option.the-variants.{Some, None}
+use Rattle.std.specs.declared.option.Option.the-variants.{None}
 use Rattle.std.proofs.shelf.Ways.{tells}
 use Rattle.manager.specs.Meaning.{Meaning, limit}
 use Rattle.manager.specs.Refusals.{refused, site-order, ask-order, free-order, step-order}
-use Rattle.manager.specs.declared.status.Status.the-variants.{Idle, Waiting, Holding}
+use Rattle.manager.specs.declared.status.Status.the-variants.{Idle, Holding}
 
 module _ (m : Meaning) (i : ℕ) where
   pub site-accepted : i < m .sites → refused site-order m i ≡ None

@@ -1,14 +1,13 @@
 -- What a call of a lawful part does to the side that it belongs to, for each call that a tie makes of its parts.
 use mathlib.Core.Path.{_≡_, refl}
-use mathlib.Core.Bool.{true}
-use Prim.Native.Nat.{ℕ, _+_, _-_, _≤_, _<_}
+use Prim.Native.Nat.{ℕ, _+_, _≤_, _<_}
 use native.Mathlib.Omega.{arith}
 use Rattle.std.specs.declared.option.Option.{Option}
 use Rattle.std.specs.declared.option.Option.the-variants.{None}
 use Rattle.manager.specs.Effects.{Asked, Freed, Stepped}
 use Rattle.manager.specs.Laws.{Laws}
 use Rattle.manager.specs.Meaning.{Meaning, limit}
-use Rattle.manager.specs.declared.status.Status.the-variants.{Idle, Waiting, Holding}
+use Rattle.manager.specs.declared.status.Status.the-variants.{Idle, Holding}
 use Rattle.tie_rules.specs.Reading.{last, lifted}
 use Rattle.tie_rules.specs.Rules.{Passes, asks-outer, frees-island, asks-island, frees-outer}
 use Rattle.tie_rules.specs.Sides.{Side, at}

@@ -1,10 +1,10 @@
 -- Why a site of the tie is barred, case by case, and that no site of the tie holds then.
-use mathlib.Core.Path.{_≡_, ap}
+use mathlib.Core.Path.{_≡_}
 use mathlib.Core.Bool.{true, false, cond, _||_}
-use mathlib.Core.Logic.{_⊎_, inl, inr}
-use Prim.Native.Nat.{ℕ, _+_, _<_}
+use mathlib.Core.Logic.{inl, inr}
+use Prim.Native.Nat.{ℕ}
 use native.Mathlib.Omega.{arith}
-use Rattle.std.proofs.shelf.Tests.{cases-bool, or-cases, cond-true, cond-false}
+use Rattle.std.proofs.shelf.Tests.{cases-bool, or-cases}
 use Rattle.manager.specs.Meaning.{Meaning, is-holding}
 use Rattle.manager.specs.declared.status.Status.the-variants.{Holding}
 use Rattle.tie_rules.specs.Sides.{Side, Own, inside, barred-on}

@@ -1,7 +1,6 @@
 -- A call of an island at a site of the tie, and a step of an island or of the outer manager, as the tie shows it.
 use mathlib.Core.Path.{_≡_, refl, sym, _∙_}
-use mathlib.Core.Bool.{true}
-use mathlib.Core.Logic.{_⊎_, inl, inr}
+use mathlib.Core.Logic.{inl, inr}
 use Prim.Native.Nat.{ℕ, _+_, _≤_, _<_}
 use native.Mathlib.Omega.{arith}
 use Rattle.std.specs.declared.option.Option.{Option}
@@ -9,11 +8,11 @@ use Rattle.std.specs.declared.option.Option.the-variants.{None}
 use Rattle.manager.specs.Effects.{Asked, Freed, Stepped}
 use Rattle.manager.specs.Laws.{Lawful}
 use Rattle.manager.specs.Meaning.{Meaning}
-use Rattle.manager.specs.declared.status.Status.the-variants.{Idle, Waiting, Holding}
+use Rattle.manager.specs.declared.status.Status.the-variants.{Holding}
 use Rattle.tie_rules.specs.Reading.{lifted}
 use Rattle.tie_rules.specs.Sides.{Side, at}
-use Rattle.tie_rules.proofs.Barred.{Barred, island-bars, barred-from}
-use Rattle.tie_rules.proofs.Kept.{Kept, island-here, island-there, outer-here}
+use Rattle.tie_rules.proofs.Barred.{island-bars, barred-from}
+use Rattle.tie_rules.proofs.Kept.{island-here, island-there, outer-here}
 use Rattle.tie_rules.proofs.Linked.{Linked, linked-turned, holder-inside}
 use Rattle.tie_rules.proofs.Moves.{moves-most, settled-lasts, step-moves}
 use Rattle.tie_rules.proofs.Sites.{Keeps, keeps-same, stepped-keeps, asked-keeps, freed-keeps, keeps-holding, keeps-idle, stands-kept, island-linked, outer-linked}

@@ -1,16 +1,16 @@
 -- Called and barred marks of one side's sites last through whatever befalls a part.
-use mathlib.Core.Path.{_≡_, refl, sym, _∙_}
+use mathlib.Core.Path.{_≡_, refl, _∙_}
 use mathlib.Core.Bool.{true, false}
-use mathlib.Core.Logic.{_⊎_, inl, inr}
-use Prim.Native.Nat.{ℕ, _+_, _<_}
+use mathlib.Core.Logic.{inl, inr}
+use Prim.Native.Nat.{ℕ, _<_}
 use native.Mathlib.Omega.{arith}
-use Rattle.std.proofs.shelf.Tests.{cases-bool, cases-eq, both-ways}
+use Rattle.std.proofs.shelf.Tests.{cases-bool, both-ways}
 use Rattle.manager.specs.Effects.{CalledLasts, BarredLasts}
 use Rattle.manager.specs.Meaning.{Meaning, is-holding}
-use Rattle.manager.specs.declared.status.Status.the-variants.{Idle, Holding}
+use Rattle.manager.specs.declared.status.Status.the-variants.{Holding}
 use Rattle.tie_rules.specs.Sides.{Side, at, Own, inside}
 use Rattle.tie_rules.specs.declared.Gateway.{Gateway}
-use Rattle.tie_rules.specs.declared.Gateway.the-variants.{Out, Coming, In, Leaving}
+use Rattle.tie_rules.specs.declared.Gateway.the-variants.{Out, In}
 use Rattle.tie_rules.proofs.Barred.{Barred, island-bars, gateway-takes, post-barred, other-barred, other-comes, barred-alone}
 use Rattle.tie_rules.proofs.Linked.{Linked, linked-turned, holds-of, holds-not, inside-holds, outside-holds, gateway-alone, busy-own, outer-alone, inside-once, busy-post}
 

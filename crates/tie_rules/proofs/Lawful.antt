@@ -2,20 +2,20 @@
 use mathlib.Core.Path.{_≡_, refl, sym, ap, _∙_}
 use mathlib.Core.Bool.{Bool, true, false}
 use mathlib.Core.Logic.{_⊎_, inl, inr}
-use Prim.Native.Nat.{ℕ, _+_, _≤_, _<_, min}
+use Prim.Native.Nat.{ℕ, _+_, _<_}
 use native.Mathlib.Omega.{arith}
-use Rattle.std.proofs.shelf.Tests.{cases-bool, cases-eq}
+use Rattle.std.proofs.shelf.Tests.{cases-eq}
 use Rattle.counting.specs.Sums.{one-if}
 use Rattle.manager.specs.Laws.{Lawful}
-use Rattle.manager.specs.Meaning.{Meaning, limit, is-holding}
+use Rattle.manager.specs.Meaning.{Meaning}
 use Rattle.manager.specs.declared.status.Status.the-variants.{Idle, Waiting, Holding}
 use Rattle.tie_rules.specs.Invariant.{StandsAt}
 use Rattle.tie_rules.specs.Reading.{things}
 use Rattle.tie_rules.specs.Sides.{Side, Own, due}
 use Rattle.tie_rules.specs.declared.Gateway.{Gateway}
 use Rattle.tie_rules.specs.declared.Gateway.the-variants.{Out, Coming, In, Leaving}
-use Rattle.tie_rules.proofs.Barred.{Barred, barred-cases, barred-alone, barred-alone-there}
-use Rattle.tie_rules.proofs.Linked.{Sided, Linked, linked-turned, inside-holds, outside-holds, gateway-alone, holder-inside, busy-own, outer-alone, inside-once, busy-post, holds-of}
+use Rattle.tie_rules.proofs.Barred.{barred-cases, barred-alone, barred-alone-there}
+use Rattle.tie_rules.proofs.Linked.{Sided, Linked, linked-turned, holder-inside, busy-own, inside-once}
 use Rattle.tie_rules.proofs.Views.{On, Views, views-turned, status-on, called-on, barred-at}
 
 -- A gateway that is called in its island, while no move of it is due, waits at the outer manager.

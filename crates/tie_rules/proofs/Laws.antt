@@ -1,7 +1,6 @@
 -- A tie of three lawful managers is a lawful manager.
-use mathlib.Core.Path.{_≡_, refl, sym, subst, _∙_}
-use mathlib.Core.Logic.{_⊎_, inl, inr}
-use Prim.Native.Nat.{ℕ, _+_, _-_, _≤_, _<_}
+use mathlib.Core.Path.{_≡_, sym, subst, _∙_}
+use Prim.Native.Nat.{ℕ, _-_, _≤_, _<_}
 use native.Mathlib.Omega.{arith}
 use Rattle.std.specs.declared.option.Option.{Option}
 use Rattle.std.specs.declared.option.Option.the-variants.{None}
@@ -10,7 +9,7 @@ use Rattle.manager.specs.Laws.{Laws, Lawful}
 use Rattle.manager.specs.Meaning.{Meaning, limit}
 use Rattle.manager.specs.Refusals.{refused, site-order, ask-order, free-order, step-order}
 use Rattle.manager.specs.declared.status.Status.{Status}
-use Rattle.manager.specs.declared.status.Status.the-variants.{Idle, Waiting, Holding}
+use Rattle.manager.specs.declared.status.Status.the-variants.{Idle, Holding}
 use Rattle.tie_rules.specs.Invariant.{Sound}
 use Rattle.tie_rules.specs.Reading.{border, left-side, right-side, lifted, meaning-of}
 use Rattle.tie_rules.specs.Rules.{AtSite, at-left, at-right, Asks, Frees, Parks, parks-left, parks-right, Steps, left-steps, right-steps, outer-steps, left-moves, right-moves}
@@ -21,8 +20,9 @@ use Rattle.tie_rules.proofs.Accepted.{accepted-site, accepted-ask, accepted-fr
 use Rattle.tie_rules.proofs.Acting.{Obeys, Acted, ask-acts, free-acts, step-acts, outer-step-acts, pass-acts}
 use Rattle.tie_rules.proofs.Lawful.{linked-lawful}
 use Rattle.tie_rules.proofs.Linked.{Linked, linked-turned}
-use Rattle.tie_rules.proofs.Parking.{Begun, park-acts}
-use Rattle.tie_rules.proofs.Views.{On, Views, views-turned, status-on}
+use Rattle.tie_rules.proofs.Parking.{park-acts}
+use Rattle.tie_rules.proofs.Refused.{left-young, right-young, outer-young}
+use Rattle.tie_rules.proofs.Views.{On, views-turned, status-on}
 use Rattle.tie_rules.proofs.Whole.{views, views-after, sound-after, bounded, sound-linked, left-acted, right-acted}
 
 module _ {L R O : Type 0} (kl : Kind L) (kr : Kind R) (ko : Kind O) where
@@ -73,32 +73,23 @@ module _ {L R O : Type 0} (kl : Kind L) (kr : Kind R) (ko : Kind O) where
           let acted = acts-right x on r (sym (status-on (views kl kr ko t .there) on) ∙ is) did in
           done (next t (t .left) r (t .outer) (t .left-gate) (t .right-gate)) (λ m n. effect m x n) e (right-acted kl kr ko t ll lr lo v r (t .right-gate) (t .outer) (λ m n. effect m x n) acted)
 
-      left-young : a .island .age < limit
-      left-young = omega (arith, v .left-young)
-
-      right-young : b .island .age < limit
-      right-young = omega (arith, v .right-young)
-
-      outer-young : o .age < limit
-      outer-young = omega (arith, v .outer-young)
-
       stepping : (k : ℕ) (grant : Option ℕ) → Steps kl kr ko t k grant t′ → Done t′ (λ m n. Stepped m grant n)
       stepping k grant (left-steps g l within did is e) =
-          rw is (done (next t l (t .right) (t .outer) (t .left-gate) (t .right-gate)) (λ m n. Stepped m (lifted (a .gateway) 0 g) n) e (left-acted kl kr ko t ll lr lo v l (t .left-gate) (t .outer) (λ m n. Stepped m (lifted (a .gateway) 0 g) n) (step-acts kl ko ll lo (t .left) (t .left-gate) 0 0 b (t .outer) linked (v .left) (v .outer) left-young outer-young k g l within did)))
+          rw is (done (next t l (t .right) (t .outer) (t .left-gate) (t .right-gate)) (λ m n. Stepped m (lifted (a .gateway) 0 g) n) e (left-acted kl kr ko t ll lr lo v l (t .left-gate) (t .outer) (λ m n. Stepped m (lifted (a .gateway) 0 g) n) (step-acts kl ko ll lo (t .left) (t .left-gate) 0 0 b (t .outer) linked (v .left) (v .outer) (left-young kl kr ko t v young) (outer-young kl kr ko t v young) k g l within did)))
       stepping k grant (right-steps j g r place within did is e) =
-          rw is (done (next t (t .left) r (t .outer) (t .left-gate) (t .right-gate)) (λ m n. Stepped m (lifted (b .gateway) (b .offset) g) n) e (right-acted kl kr ko t ll lr lo v r (t .right-gate) (t .outer) (λ m n. Stepped m (lifted (b .gateway) (b .offset) g) n) (step-acts kr ko lr lo (t .right) (t .right-gate) 1 (b .offset) a (t .outer) (linked-turned linked) (v .right) (v .outer) right-young outer-young j g r within did)))
+          rw is (done (next t (t .left) r (t .outer) (t .left-gate) (t .right-gate)) (λ m n. Stepped m (lifted (b .gateway) (b .offset) g) n) e (right-acted kl kr ko t ll lr lo v r (t .right-gate) (t .outer) (λ m n. Stepped m (lifted (b .gateway) (b .offset) g) n) (step-acts kr ko lr lo (t .right) (t .right-gate) 1 (b .offset) a (t .outer) (linked-turned linked) (v .right) (v .outer) (right-young kl kr ko t v young) (outer-young kl kr ko t v young) j g r within did)))
       stepping k grant (outer-steps j g o′ place within did is e) =
-          rw is (done (next t (t .left) (t .right) o′ (t .left-gate) (t .right-gate)) (λ m n. Stepped m None n) e (left-acted kl kr ko t ll lr lo v (t .left) (t .left-gate) o′ (λ m n. Stepped m None n) (outer-step-acts kl ko ll lo (t .left) (t .left-gate) 0 0 b (t .outer) linked (v .left) (v .outer) left-young outer-young j g o′ within did)))
+          rw is (done (next t (t .left) (t .right) o′ (t .left-gate) (t .right-gate)) (λ m n. Stepped m None n) e (left-acted kl kr ko t ll lr lo v (t .left) (t .left-gate) o′ (λ m n. Stepped m None n) (outer-step-acts kl ko ll lo (t .left) (t .left-gate) 0 0 b (t .outer) linked (v .left) (v .outer) (left-young kl kr ko t v young) (outer-young kl kr ko t v young) j g o′ within did)))
       stepping k grant (left-moves l gate o′ place pass is e) =
-          rw is (done (next t l (t .right) o′ gate (t .right-gate)) (λ m n. Stepped m None n) e (left-acted kl kr ko t ll lr lo v l gate o′ (λ m n. Stepped m None n) (pass-acts kl ko ll lo (t .left) (t .left-gate) 0 0 b (t .outer) linked (v .left) (v .outer) left-young outer-young pass)))
+          rw is (done (next t l (t .right) o′ gate (t .right-gate)) (λ m n. Stepped m None n) e (left-acted kl kr ko t ll lr lo v l gate o′ (λ m n. Stepped m None n) (pass-acts kl ko ll lo (t .left) (t .left-gate) 0 0 b (t .outer) linked (v .left) (v .outer) (left-young kl kr ko t v young) (outer-young kl kr ko t v young) pass)))
       stepping k grant (right-moves r gate o′ place pass is e) =
-          rw is (done (next t (t .left) r o′ (t .left-gate) gate) (λ m n. Stepped m None n) e (right-acted kl kr ko t ll lr lo v r gate o′ (λ m n. Stepped m None n) (pass-acts kr ko lr lo (t .right) (t .right-gate) 1 (b .offset) a (t .outer) (linked-turned linked) (v .right) (v .outer) right-young outer-young pass)))
+          rw is (done (next t (t .left) r o′ (t .left-gate) gate) (λ m n. Stepped m None n) e (right-acted kl kr ko t ll lr lo v r gate o′ (λ m n. Stepped m None n) (pass-acts kr ko lr lo (t .right) (t .right-gate) 1 (b .offset) a (t .outer) (linked-turned linked) (v .right) (v .outer) (right-young kl kr ko t v young) (outer-young kl kr ko t v young) pass)))
 
       asking : (x : ℕ) → x < meaning-of kl kr ko t .sites → meaning-of kl kr ko t .status x ≡ Idle → Asks kl kr ko t x t′ → Done t′ (λ m n. Asked m x n)
-      asking = site-lawful Idle Asked (kl .asks) (kr .asks) (ask-acts kl ko ll lo (t .left) (t .left-gate) 0 0 b (t .outer) linked (v .left) (v .outer) left-young outer-young) (ask-acts kr ko lr lo (t .right) (t .right-gate) 1 (b .offset) a (t .outer) (linked-turned linked) (v .right) (v .outer) right-young outer-young)
+      asking = site-lawful Idle Asked (kl .asks) (kr .asks) (ask-acts kl ko ll lo (t .left) (t .left-gate) 0 0 b (t .outer) linked (v .left) (v .outer) (left-young kl kr ko t v young) (outer-young kl kr ko t v young)) (ask-acts kr ko lr lo (t .right) (t .right-gate) 1 (b .offset) a (t .outer) (linked-turned linked) (v .right) (v .outer) (right-young kl kr ko t v young) (outer-young kl kr ko t v young))
 
       freeing : (x : ℕ) → x < meaning-of kl kr ko t .sites → meaning-of kl kr ko t .status x ≡ Holding → Frees kl kr ko t x t′ → Done t′ (λ m n. Freed m x n)
-      freeing = site-lawful Holding Freed (kl .frees) (kr .frees) (free-acts kl ko ll lo (t .left) (t .left-gate) 0 0 b (t .outer) linked (v .left) (v .outer) left-young outer-young) (free-acts kr ko lr lo (t .right) (t .right-gate) 1 (b .offset) a (t .outer) (linked-turned linked) (v .right) (v .outer) right-young outer-young)
+      freeing = site-lawful Holding Freed (kl .frees) (kr .frees) (free-acts kl ko ll lo (t .left) (t .left-gate) 0 0 b (t .outer) linked (v .left) (v .outer) (left-young kl kr ko t v young) (outer-young kl kr ko t v young)) (free-acts kr ko lr lo (t .right) (t .right-gate) 1 (b .offset) a (t .outer) (linked-turned linked) (v .right) (v .outer) (right-young kl kr ko t v young) (outer-young kl kr ko t v young))
 
     pub ask-lawful : (t t′ : Tie L R O) (x : ℕ) → Sound kl kr ko t → refused ask-order (meaning-of kl kr ko t) x ≡ None → Asks kl kr ko t x t′ → Sound kl kr ko t′ × Asked (meaning-of kl kr ko t) x (meaning-of kl kr ko t′)
     ask-lawful t t′ x v free =

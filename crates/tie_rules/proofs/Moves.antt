@@ -1,16 +1,16 @@
 -- How many moves gateways can still make: at most six, fewer after each move, and never more after a step of a part.
-use mathlib.Core.Path.{_≡_, refl, ap}
-use mathlib.Core.Bool.{Bool, true, false, cond, _||_}
-use mathlib.Core.Logic.{_⊎_, inl, inr}
+use mathlib.Core.Path.{_≡_, ap}
+use mathlib.Core.Bool.{Bool, true, false}
+use mathlib.Core.Logic.{inl, inr}
 use Prim.Native.Nat.{ℕ, _+_, _≤_, _<_}
 use native.Mathlib.Omega.{arith}
 use Rattle.std.specs.Options.{isSome}
-use Rattle.std.proofs.shelf.Tests.{cases-bool, cases-lt, or-cases, or-left, or-right, or-from, both-ways}
+use Rattle.std.proofs.shelf.Tests.{cases-bool, or-cases, or-left, or-right, both-ways}
 use Rattle.manager.specs.Answers.{first}
 use Rattle.manager.specs.Effects.{BarredLasts}
 use Rattle.manager.specs.Meaning.{Meaning, is-holding}
 use Rattle.manager.specs.declared.status.Status.the-variants.{Holding}
-use Rattle.tie_rules.specs.Sides.{Side, at, inside, settled, weigh, weight, moves}
+use Rattle.tie_rules.specs.Sides.{Side, at, inside, settled, weigh, moves}
 use Rattle.tie_rules.specs.declared.Gateway.{Gateway}
 use Rattle.tie_rules.specs.declared.Gateway.the-variants.{Out, Coming, In, Leaving}
 use Rattle.tie_rules.proofs.First.{first-found, first-some}

@@ -1,18 +1,17 @@
 -- Parking a tie at a site of side a leaves the sides linked, and is a park at the tie.
 use mathlib.Core.Path.{_≡_, refl, sym, _∙_}
-use mathlib.Core.Bool.{true, false, _||_}
-use mathlib.Core.Logic.{_⊎_, inl, inr}
-use Prim.Native.Nat.{ℕ, _+_, _*_, _≤_, _<_, min}
+use mathlib.Core.Bool.{false}
+use mathlib.Core.Logic.{inl, inr}
+use Prim.Native.Nat.{ℕ, _+_, _≤_, _<_}
 use native.Mathlib.Nat.{mul-le-mul-left}
 use native.Mathlib.Omega.{arith}
 use Rattle.std.proofs.shelf.Tests.{cases-bool, cases-eq, or-from}
-use Rattle.counting.specs.Sums.{one-if}
 use Rattle.manager.specs.Effects.{Parked}
 use Rattle.manager.specs.Laws.{Lawful}
-use Rattle.manager.specs.Meaning.{Meaning, limit, is-holding}
-use Rattle.manager.specs.declared.status.Status.the-variants.{Idle, Waiting, Holding}
+use Rattle.manager.specs.Meaning.{Meaning}
+use Rattle.manager.specs.declared.status.Status.the-variants.{Idle}
 use Rattle.tie_rules.specs.Reading.{largest, things}
-use Rattle.tie_rules.specs.Sides.{Side, at, Own, settled, weight, moves}
+use Rattle.tie_rules.specs.Sides.{Side, at, moves}
 use Rattle.tie_rules.specs.declared.Gateway.the-variants.{Out, In}
 use Rattle.tie_rules.proofs.Linked.{Linked}
 use Rattle.tie_rules.proofs.Moves.{holder-settles}

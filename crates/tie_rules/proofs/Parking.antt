@@ -1,10 +1,9 @@
 -- Parking the three parts of a tie, for a site on either side.
-use mathlib.Core.Path.{_≡_, refl}
-use Prim.Native.Nat.{ℕ, _+_, _-_, _≤_, _<_}
+use mathlib.Core.Path.{_≡_}
+use Prim.Native.Nat.{ℕ, _+_, _<_}
 use native.Mathlib.Omega.{arith}
 use Rattle.manager.specs.Effects.{Parked}
 use Rattle.manager.specs.Meaning.{Meaning}
-use Rattle.tie_rules.specs.Reading.{last}
 use Rattle.tie_rules.specs.Sides.{Side, at}
 use Rattle.tie_rules.specs.State.{Kind}
 use Rattle.tie_rules.specs.declared.Gateway.{Gateway}

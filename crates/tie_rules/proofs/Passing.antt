@@ -1,14 +1,14 @@
 -- The four moves of a gateway, as the tie shows them: each keeps the sides linked and is a step that grants nobody.
 use mathlib.Core.Path.{_≡_, refl, sym, ap}
 use mathlib.Core.Bool.{true, false}
-use Prim.Native.Nat.{ℕ, _+_, _≤_, _<_}
+use Prim.Native.Nat.{ℕ, _+_, _<_}
 use native.Mathlib.Omega.{arith}
 use Rattle.std.specs.declared.option.Option.the-variants.{None}
 use Rattle.manager.specs.Effects.{Asked, Freed, Stepped}
 use Rattle.manager.specs.Laws.{Lawful}
 use Rattle.manager.specs.Meaning.{Meaning, limit}
 use Rattle.manager.specs.Refusals.{refused, ask-order, free-order}
-use Rattle.manager.specs.declared.status.Status.the-variants.{Idle, Waiting, Holding}
+use Rattle.manager.specs.declared.status.Status.the-variants.{Holding}
 use Rattle.tie_rules.specs.Invariant.{StandsAt}
 use Rattle.tie_rules.specs.Sides.{Side, at, inside}
 use Rattle.tie_rules.specs.declared.Gateway.{Gateway}

@@ -1,5 +1,5 @@
 -- What a tie answers, from what its parts answer, sound or not.
-use mathlib.Core.Path.{_≡_, refl, sym, ap, _∙_}
+use mathlib.Core.Path.{_≡_, refl, ap, _∙_}
 use mathlib.Core.Bool.{Bool, true, false, cond, _&&_}
 use mathlib.Core.Logic.{_⊎_, inl, inr}
 use Prim.Native.Nat.{ℕ, _+_, _-_, _*_, _≤_, _<_, min, max}
@@ -7,13 +7,11 @@ use native.Mathlib.Omega.{arith}
 use lib.Dec.{ltb}
 use Rattle.std.specs.declared.option.Option.{Option}
 use Rattle.std.specs.declared.option.Option.the-variants.{Some, None}
-use Rattle.std.specs.declared.result.Result.{Result}
 use Rattle.std.specs.declared.result.Result.the-variants.{Ok}
 use Rattle.std.proofs.shelf.Tests.{cases-eq, cases-lt, cond-true, cond-false, cond-both, and-parts, and-cases, ltb-true, ltb-false, lt-ltb, le-ltb}
 use Rattle.counting.specs.Sums.{one-if}
-use Rattle.manager.specs.Answers.{answer, first, status-shown, called-shown, holder-shown, toll-shown}
+use Rattle.manager.specs.Answers.{answer, status-shown, called-shown, holder-shown, toll-shown}
 use Rattle.manager.specs.Meaning.{Meaning, limit, is-holding}
-use Rattle.manager.specs.Refusals.{refused, site-order}
 use Rattle.manager.specs.declared.refusal.Refusal.{Refusal}
 use Rattle.tie_rules.specs.Reading.{last, border, left-side, right-side, meaning-of}
 use Rattle.tie_rules.specs.Rules.{before-left-move, before-right-move}

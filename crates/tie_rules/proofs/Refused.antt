@@ -1,6 +1,6 @@
 -- A tie that is sound and not worn refuses as its parts do, and the calls of its own moves are accepted.
 use mathlib.Core.Path.{_≡_}
-use Prim.Native.Nat.{ℕ, _+_, _-_, _≤_, _<_}
+use Prim.Native.Nat.{ℕ, _-_, _≤_, _<_}
 use native.Mathlib.Omega.{arith}
 use Rattle.std.specs.declared.option.Option.the-variants.{None}
 use Rattle.manager.specs.Meaning.{Meaning, limit}

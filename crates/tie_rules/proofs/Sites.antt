@@ -2,7 +2,7 @@
 use mathlib.Core.Path.{_≡_, refl, _∙_}
 use mathlib.Core.Bool.{true}
 use mathlib.Core.Logic.{_⊎_, inl, inr}
-use Prim.Native.Nat.{ℕ, _+_, _≤_, _<_}
+use Prim.Native.Nat.{ℕ, _<_}
 use native.Mathlib.Omega.{arith}
 use Rattle.std.specs.declared.option.Option.{Option}
 use Rattle.std.specs.declared.option.Option.the-variants.{Some, None}
@@ -15,7 +15,7 @@ use Rattle.tie_rules.specs.Invariant.{StandsAt, Stands, Unreached}
 use Rattle.tie_rules.specs.Sides.{Side, at}
 use Rattle.tie_rules.specs.declared.Gateway.{Gateway}
 use Rattle.tie_rules.specs.declared.Gateway.the-variants.{Out, Coming, In, Leaving}
-use Rattle.tie_rules.proofs.Linked.{Sided, Linked}
+use Rattle.tie_rules.proofs.Linked.{Linked}
 
 -- A site keeps its status, or comes to hold after waiting, and a called holder stays called.
 pub record Keeps (m m′ : Meaning) (j : ℕ) : Type 0 where

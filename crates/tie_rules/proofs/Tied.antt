@@ -1,17 +1,17 @@
 -- What befalls side a and the outer manager, as the tie shows it.
-use mathlib.Core.Path.{_≡_, refl, sym, ap, _∙_}
-use mathlib.Core.Bool.{true, false, cond}
-use mathlib.Core.Logic.{_⊎_, inl, inr}
+use mathlib.Core.Path.{_≡_, refl, sym, _∙_}
+use mathlib.Core.Bool.{true}
+use mathlib.Core.Logic.{inl, inr}
 use Prim.Native.Nat.{ℕ, _+_, _*_, _≤_, _<_}
 use native.Mathlib.Nat.{mul-le-mul-left, mul-add, mul-one}
 use native.Mathlib.Omega.{arith}
 use lib.Dec.{eqb}
 use Rattle.std.specs.declared.option.Option.{Option}
 use Rattle.std.specs.declared.option.Option.the-variants.{Some, None}
-use Rattle.std.proofs.shelf.Tests.{cases-eq, cond-both, eqb-true, eqb-false}
+use Rattle.std.proofs.shelf.Tests.{cond-both, eqb-true, eqb-false}
 use Rattle.manager.specs.Effects.{OthersKeep, CalledLasts, BarredLasts, Granted, Stepped}
 use Rattle.manager.specs.Meaning.{Meaning}
-use Rattle.manager.specs.declared.status.Status.the-variants.{Idle, Waiting, Holding}
+use Rattle.manager.specs.declared.status.Status.the-variants.{Holding}
 use Rattle.tie_rules.specs.Reading.{largest, lifted}
 use Rattle.tie_rules.specs.Sides.{Side, at, Own, moves}
 use Rattle.tie_rules.specs.declared.Gateway.{Gateway}

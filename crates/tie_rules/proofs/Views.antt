@@ -8,7 +8,7 @@ use lib.Dec.{ltb}
 use Rattle.std.proofs.shelf.Tests.{cases-lt, cond-true, cond-false, lt-ltb, le-ltb}
 use Rattle.manager.specs.Meaning.{Meaning, limit}
 use Rattle.tie_rules.specs.Reading.{joined, largest, things}
-use Rattle.tie_rules.specs.Sides.{Side, Own, due, moves, barred-on}
+use Rattle.tie_rules.specs.Sides.{Side, Own, moves, barred-on}
 
 -- The tie's site x is a site of side a.
 abbrev pub On : Side → ℕ → Type 0

@@ -1,12 +1,11 @@
 -- A sound tie is two linked sides, and sides that a call leaves linked make a sound tie.
 use mathlib.Core.Path.{_≡_, refl, sym, ap, ap₂, subst}
-use Prim.Native.Nat.{ℕ, _+_, _-_, _≤_, _<_}
+use Prim.Native.Nat.{ℕ, _+_, _-_, _≤_}
 use native.Mathlib.Omega.{arith}
 use Rattle.manager.specs.Laws.{Bounded}
 use Rattle.manager.specs.Meaning.{Meaning, limit}
-use Rattle.manager.specs.declared.status.Status.the-variants.{Idle}
 use Rattle.tie_rules.specs.Invariant.{Stands, Unreached, Sound}
-use Rattle.tie_rules.specs.Reading.{joined, border, left-side, right-side, meaning-of}
+use Rattle.tie_rules.specs.Reading.{joined, left-side, right-side, meaning-of}
 use Rattle.tie_rules.specs.Sides.{Side, at}
 use Rattle.tie_rules.specs.State.{Kind, Tie, next}
 use Rattle.tie_rules.specs.declared.Gateway.{Gateway}
