@@ -39,7 +39,17 @@ pub record Acted {I O : Type 0} (ki : Kind I) (ko : Kind O) (a b : Side) (p : I)
   pub linked : Linked (at a (ki .meaning p′) g′) b (ko .meaning o′)
   pub shown : (t t′ : Meaning) (old : ℕ) → Views t a b (ko .meaning o) old → Views t′ (at a (ki .meaning p′) g′) b (ko .meaning o′) (old + 1) → effect t t′
 
-module _ {I O : Type 0} (ki : Kind I) (ko : Kind O) (li : Obeys ki) (lo : Obeys ko) (p : I) (gate : Gateway) (post offset : ℕ) (b : Side) (o : O) (v : Linked (part-side ki p gate post offset) b (ko .meaning o)) (sound : ki .sound p) (outer-sound : ko .sound o) (young : ki .meaning p .age < limit) (outer-young : ko .meaning o .age < limit) where
+-- A sound island p, with its gateway linked through a sound outer manager o to side b, where neither manager is worn.
+pub record Ready {I O : Type 0} (ki : Kind I) (ko : Kind O) (p : I) (gate : Gateway) (post offset : ℕ) (b : Side) (o : O) : Type 0 where
+  pub laws : Obeys ki
+  pub outer-laws : Obeys ko
+  pub linked : Linked (part-side ki p gate post offset) b (ko .meaning o)
+  pub sound : ki .sound p
+  pub outer-sound : ko .sound o
+  pub young : ki .meaning p .age < limit
+  pub outer-young : ko .meaning o .age < limit
+
+module _ {I O : Type 0} {ki : Kind I} {ko : Kind O} {p : I} {gate : Gateway} {post offset : ℕ} {b : Side} {o : O} (r : Ready ki ko p gate post offset b o) where
   abbrev a : Side
   a = part-side ki p gate post offset
 
@@ -53,7 +63,7 @@ module _ {I O : Type 0} (ki : Kind I) (ko : Kind O) (li : Obeys ki) (lo : Obeys 
   island-acted : (p′ : I) (g′ : Gateway) (effect : Meaning → Meaning → Type 0) → ki .sound p′ → ki .meaning p′ .sites ≡ m .sites → ki .meaning p′ .age ≡ m .age + 1 → Linked (at a (ki .meaning p′) g′) b n → ((t t′ : Meaning) (old : ℕ) → Views t a b n old → Views t′ (at a (ki .meaning p′) g′) b n (old + 1) → effect t t′) → Acted ki ko a b p o p′ g′ o effect
   island-acted p′ g′ effect sound′ sites older linked shown = record {
     sound = sound′;
-    outer-sound = outer-sound;
+    outer-sound = r .outer-sound;
     sites = sites;
     age = omega arith;
     outer-age = omega arith;
@@ -63,7 +73,7 @@ module _ {I O : Type 0} (ki : Kind I) (ko : Kind O) (li : Obeys ki) (lo : Obeys 
 
   outer-acted : (g′ : Gateway) (o′ : O) → ko .sound o′ → ko .meaning o′ .age ≡ n .age + 1 → Linked (at a m g′) b (ko .meaning o′) → ((t t′ : Meaning) (old : ℕ) → Views t a b n old → Views t′ (at a m g′) b (ko .meaning o′) (old + 1) → Stepped t None t′) → Acted ki ko a b p o p g′ o′ (λ t t′. Stepped t None t′)
   outer-acted g′ o′ sound′ older linked shown = record {
-    sound = sound;
+    sound = r .sound;
     outer-sound = sound′;
     sites = refl;
     age = omega arith;
@@ -74,45 +84,45 @@ module _ {I O : Type 0} (ki : Kind I) (ko : Kind O) (li : Obeys ki) (lo : Obeys 
 
   pub ask-acts : (x : ℕ) (on : On a x) (p′ : I) → m .status (on .0) ≡ Idle → ki .asks p (on .0) p′ → Acted ki ko a b p o p′ gate o (λ t t′. Asked t x t′)
   ask-acts x on p′ idle did =
-      let now = li .asking p p′ (on .0) sound (ask-accepted m (on .0) (omega (arith, on .1 .0)) young idle) did in
-      let lawful = li .lawful p′ (now .0) in
-      island-acted p′ gate (λ t t′. Asked t x t′) (now .0) (now .1 .sites) (now .1 .age) (ask-linked a b n v (ki .meaning p′) lawful x on (now .1)) (λ t t′ old w w′. ask-shown a b n v (ki .meaning p′) lawful x on t t′ old w w′ (now .1))
+      let now = r .laws .asking p p′ (on .0) (r .sound) (ask-accepted m (on .0) (omega (arith, on .1 .0)) (r .young) idle) did in
+      let lawful = r .laws .lawful p′ (now .0) in
+      island-acted p′ gate (λ t t′. Asked t x t′) (now .0) (now .1 .sites) (now .1 .age) (ask-linked a b n (r .linked) (ki .meaning p′) lawful x on (now .1)) (λ t t′ old w w′. ask-shown a b n (r .linked) (ki .meaning p′) lawful x on t t′ old w w′ (now .1))
 
   pub free-acts : (x : ℕ) (on : On a x) (p′ : I) → m .status (on .0) ≡ Holding → ki .frees p (on .0) p′ → Acted ki ko a b p o p′ gate o (λ t t′. Freed t x t′)
   free-acts x on p′ holds did =
-      let now = li .freeing p p′ (on .0) sound (free-accepted m (on .0) (omega (arith, on .1 .0)) young holds) did in
-      let lawful = li .lawful p′ (now .0) in
-      island-acted p′ gate (λ t t′. Freed t x t′) (now .0) (now .1 .sites) (now .1 .age) (free-linked a b n v (ki .meaning p′) lawful x on (now .1) holds) (λ t t′ old w w′. free-shown a b n v (ki .meaning p′) lawful x on t t′ old w w′ (now .1) holds)
+      let now = r .laws .freeing p p′ (on .0) (r .sound) (free-accepted m (on .0) (omega (arith, on .1 .0)) (r .young) holds) did in
+      let lawful = r .laws .lawful p′ (now .0) in
+      island-acted p′ gate (λ t t′. Freed t x t′) (now .0) (now .1 .sites) (now .1 .age) (free-linked a b n (r .linked) (ki .meaning p′) lawful x on (now .1) holds) (λ t t′ old w w′. free-shown a b n (r .linked) (ki .meaning p′) lawful x on t t′ old w w′ (now .1) holds)
 
   pub step-acts : (k : ℕ) (g : Option ℕ) (p′ : I) → k < m .underway → ki .steps p k g p′ → Acted ki ko a b p o p′ gate o (λ t t′. Stepped t (lifted (a .gateway) offset g) t′)
   step-acts k g p′ l did =
-      let now = li .stepping p p′ k g sound (step-accepted m k l young) did in
-      let lawful = li .lawful p′ (now .0) in
-      island-acted p′ gate (λ t t′. Stepped t (lifted (a .gateway) offset g) t′) (now .0) (now .1 .sites) (now .1 .age) (step-linked a b n v (ki .meaning p′) lawful g (now .1)) (step-shown a b n v (ki .meaning p′) lawful g (now .1))
+      let now = r .laws .stepping p p′ k g (r .sound) (step-accepted m k l (r .young)) did in
+      let lawful = r .laws .lawful p′ (now .0) in
+      island-acted p′ gate (λ t t′. Stepped t (lifted (a .gateway) offset g) t′) (now .0) (now .1 .sites) (now .1 .age) (step-linked a b n (r .linked) (ki .meaning p′) lawful g (now .1)) (step-shown a b n (r .linked) (ki .meaning p′) lawful g (now .1))
 
   pub outer-step-acts : (k : ℕ) (g : Option ℕ) (o′ : O) → k < n .underway → ko .steps o k g o′ → Acted ki ko a b p o p gate o′ (λ t t′. Stepped t None t′)
   outer-step-acts k g o′ l did =
-      let now = lo .stepping o o′ k g outer-sound (step-accepted n k l outer-young) did in
-      let lawful = lo .lawful o′ (now .0) in
-      outer-acted gate o′ (now .0) (now .1 .age) (outer-step-linked a b n v (ko .meaning o′) lawful g (now .1)) (outer-step-shown a b n v (ko .meaning o′) lawful g (now .1))
+      let now = r .outer-laws .stepping o o′ k g (r .outer-sound) (step-accepted n k l (r .outer-young)) did in
+      let lawful = r .outer-laws .lawful o′ (now .0) in
+      outer-acted gate o′ (now .0) (now .1 .age) (outer-step-linked a b n (r .linked) (ko .meaning o′) lawful g (now .1)) (outer-step-shown a b n (r .linked) (ko .meaning o′) lawful g (now .1))
 
   accepts : Accepts a n
-  accepts = moves-accepted a n (v .here) young outer-young
+  accepts = moves-accepted a n (r .linked .here) (r .young) (r .outer-young)
 
   pub pass-acts : {p′ : I} {g′ : Gateway} {o′ : O} → Passes ki ko post p gate o p′ g′ o′ → Acted ki ko a b p o p′ g′ o′ (λ t t′. Stepped t None t′)
   pass-acts (asks-outer {o′} out called did) =
-      let now = lo .asking o o′ post outer-sound (accepts .out out) did in
-      let lawful = lo .lawful o′ (now .0) in
-      outer-acted Coming o′ (now .0) (now .1 .age) (asking-linked a b n v (ko .meaning o′) lawful out called (now .1)) (asking-shown a b n v (ko .meaning o′) lawful out called (now .1))
+      let now = r .outer-laws .asking o o′ post (r .outer-sound) (accepts .out out) did in
+      let lawful = r .outer-laws .lawful o′ (now .0) in
+      outer-acted Coming o′ (now .0) (now .1 .age) (asking-linked a b n (r .linked) (ko .meaning o′) lawful out called (now .1)) (asking-shown a b n (r .linked) (ko .meaning o′) lawful out called (now .1))
   pass-acts (frees-island {p′} coming holds did) =
-      let now = li .freeing p p′ (a .gateway) sound (accepts .coming coming) did in
-      let lawful = li .lawful p′ (now .0) in
-      island-acted p′ In (λ t t′. Stepped t None t′) (now .0) (now .1 .sites) (now .1 .age) (arriving-linked a b n v (ki .meaning p′) lawful coming holds (now .1)) (arriving-shown a b n v (ki .meaning p′) lawful coming holds (now .1))
+      let now = r .laws .freeing p p′ (a .gateway) (r .sound) (accepts .coming coming) did in
+      let lawful = r .laws .lawful p′ (now .0) in
+      island-acted p′ In (λ t t′. Stepped t None t′) (now .0) (now .1 .sites) (now .1 .age) (arriving-linked a b n (r .linked) (ki .meaning p′) lawful coming holds (now .1)) (arriving-shown a b n (r .linked) (ki .meaning p′) lawful coming holds (now .1))
   pass-acts (asks-island {p′} came called did) =
-      let now = li .asking p p′ (a .gateway) sound (accepts .came came) did in
-      let lawful = li .lawful p′ (now .0) in
-      island-acted p′ Leaving (λ t t′. Stepped t None t′) (now .0) (now .1 .sites) (now .1 .age) (recalling-linked a b n v (ki .meaning p′) lawful came called (now .1)) (recalling-shown a b n v (ki .meaning p′) lawful came called (now .1))
+      let now = r .laws .asking p p′ (a .gateway) (r .sound) (accepts .came came) did in
+      let lawful = r .laws .lawful p′ (now .0) in
+      island-acted p′ Leaving (λ t t′. Stepped t None t′) (now .0) (now .1 .sites) (now .1 .age) (recalling-linked a b n (r .linked) (ki .meaning p′) lawful came called (now .1)) (recalling-shown a b n (r .linked) (ki .meaning p′) lawful came called (now .1))
   pass-acts (frees-outer {o′} leaving holds did) =
-      let now = lo .freeing o o′ post outer-sound (accepts .leaving leaving) did in
-      let lawful = lo .lawful o′ (now .0) in
-      outer-acted Out o′ (now .0) (now .1 .age) (leaving-linked a b n v (ko .meaning o′) lawful leaving holds (now .1)) (leaving-shown a b n v (ko .meaning o′) lawful leaving holds (now .1))
+      let now = r .outer-laws .freeing o o′ post (r .outer-sound) (accepts .leaving leaving) did in
+      let lawful = r .outer-laws .lawful o′ (now .0) in
+      outer-acted Out o′ (now .0) (now .1 .age) (leaving-linked a b n (r .linked) (ko .meaning o′) lawful leaving holds (now .1)) (leaving-shown a b n (r .linked) (ko .meaning o′) lawful leaving holds (now .1))

@@ -1,17 +1,17 @@
 -- A sound tie is two linked sides, and sides that a call leaves linked make a sound tie.
 use mathlib.Core.Path.{_≡_, refl, sym, ap, ap₂, subst}
-use Prim.Native.Nat.{ℕ, _+_, _-_, _≤_}
+use Prim.Native.Nat.{ℕ, _+_, _-_, _≤_, _<_}
 use native.Mathlib.Omega.{arith}
 use Rattle.manager.specs.Laws.{Bounded}
 use Rattle.manager.specs.Meaning.{Meaning, limit}
 use Rattle.tie_rules.specs.Invariant.{Stands, Unreached, Sound}
-use Rattle.tie_rules.specs.Reading.{joined, left-side, right-side, meaning-of}
+use Rattle.tie_rules.specs.Reading.{joined, border, left-side, right-side, meaning-of}
 use Rattle.tie_rules.specs.Sides.{Side, at}
 use Rattle.tie_rules.specs.State.{Kind, Tie, next}
 use Rattle.tie_rules.specs.declared.Gateway.{Gateway}
 use Rattle.tie_rules.proofs.Acting.{Obeys, Acted}
 use Rattle.tie_rules.proofs.Linked.{Linked, linked-turned}
-use Rattle.tie_rules.proofs.Views.{Views, views-turned, joined-views}
+use Rattle.tie_rules.proofs.Views.{On, Views, views-turned, joined-views}
 
 module _ {L R O : Type 0} (kl : Kind L) (kr : Kind R) (ko : Kind O) (t : Tie L R O) where
   -- The sides of a later tie, by those of this one: no part has changed its number of sites.
@@ -51,6 +51,14 @@ module _ {L R O : Type 0} (kl : Kind L) (kr : Kind R) (ko : Kind O) (t : Tie L R
 
   pub views : Views (meaning-of kl kr ko t) (left-side kl kr ko t) (right-side kl kr ko t) (ko .meaning (t .outer)) (t .age)
   views = joined-views (left-side kl kr ko t) (right-side kl kr ko t) (ko .meaning (t .outer)) (t .age) refl refl
+
+  module _ (x : ℕ) (l : x < meaning-of kl kr ko t .sites) where
+    -- Which side a site of the tie is on, and its number there.
+    abbrev pub on-left : x < border kl kr ko t → On (left-side kl kr ko t) x
+    on-left h = (x, (h, omega arith), omega arith)
+
+    abbrev pub on-right : border kl kr ko t ≤ x → On (right-side kl kr ko t) x
+    on-right h = (x - border kl kr ko t, (omega arith, omega arith), omega arith)
 
   module _ (ll : Obeys kl) (lr : Obeys kr) (lo : Obeys ko) where
     -- An island has a gateway and another site, so the tie has two sites at least.

@@ -17,7 +17,7 @@ last m = m .sites - 1
 abbrev pub largest : (a b : Side) (o : Meaning) → ℕ
 largest a b o = max (a .island .toll) (max (b .island .toll) (o .toll))
 
--- The moves of both gateways that are due, in the number of them.
+-- How many things are under way: those of the three parts, and the moves of the gateways that are due.
 abbrev pub things : (a b : Side) (o : Meaning) → ℕ
 things a b o = a .island .underway + b .island .underway + o .underway + one-if (due a o) + one-if (due b o)
 
