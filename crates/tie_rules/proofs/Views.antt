@@ -56,9 +56,6 @@ module _ (a b : Side) (o : Meaning) where
   pub largest-turned : largest a b o ≡ largest b a o
   largest-turned = omega arith
 
-  pub things-turned : things a b o ≡ things b a o
-  things-turned = omega arith
-
   pub views-turned : (m : Meaning) (age : ℕ) → Views m a b o age → Views m b a o age
   views-turned m age v = record {
     here = v .there;
