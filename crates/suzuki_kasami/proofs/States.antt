@@ -77,10 +77,3 @@ module _ {A : Type 0} where
   read-set-flat n a v i h k =
       let len : length (replicate n a) ≡ n = length-replicate n a in
       read-set (replicate n a) i v a (omega arith) k ∙ ap (λ f. upd f i v k) (fun-ext (read-flat n a))
-
-  -- A write leaves the rows as long as they were.
-  pub wide-set : (t : List (List A)) (i : ℕ) (xs : List A) (n : ℕ) → i < length t → length xs ≡ n → (a : ℕ) → length (getD t a []) ≡ n → length (getD (set t i xs) a []) ≡ n
-  wide-set t i xs n h e a w = elim (cases-eq a i) [
-    | inl q ↦ rw (q, getD-set-same t i xs [] h) e
-    | inr ne ↦ rw (getD-set-other t i a xs [] ne) w
-  ]

@@ -28,7 +28,7 @@ times-more xs k x h =
     let parts : times (take (k + 1) xs) x ≡ times (take k xs ++ (getD xs k 0 ∷ [])) x = ap (λ q. times q x) (take-more xs k 0 h) in
     omega (arith, times-append (take k xs) (getD xs k 0 ∷ []) x)
 
-pub times-stored : (xs : List ℕ) (n k x : ℕ) → n ≤ length xs → k < n → getD xs k 0 ≡ x → 0 < times (take n xs) x
+times-stored : (xs : List ℕ) (n k x : ℕ) → n ≤ length xs → k < n → getD xs k 0 ≡ x → 0 < times (take n xs) x
 times-stored [] n k x h l e = omega arith
 times-stored (y ∷ xs) zero k x h l e = omega arith
 times-stored (y ∷ xs) (suc n) zero x h l e = omega (arith, cond-true {A = ℕ} (eqb y x) 1 0 (eq-eqb y x e))
