@@ -1,13 +1,11 @@
 -- Equal states, and what arrays and tables read as after a write.
 use mathlib.Core.Path.{_≡_, refl, sym, ap, fun-ext, _∙_}
-use mathlib.Core.Bool.{Bool, true, false, cond, _&&_}
-use mathlib.Core.List.{List, [], _∷_, _++_}
-use mathlib.Core.Logic.{_⊎_, inl, inr}
-use Prim.Native.Nat.{ℕ, zero, suc, _+_, _-_, _≤_, _<_}
+use mathlib.Core.List.{List, []}
+use mathlib.Core.Logic.{inl, inr}
+use Prim.Native.Nat.{ℕ, zero, suc, _-_, _<_}
 use native.Mathlib.Omega.{arith}
-use lib.Dec.{eqb, ltb}
 use lib.ListN.{length, getD, set, replicate}
-use Rattle.std.proofs.shelf.Lists.{getD-set-same, getD-set-other, length-set, length-replicate, getD-past, set-past}
+use Rattle.std.proofs.shelf.Lists.{getD-set-same, getD-set-other, length-replicate, getD-past, set-past}
 use Rattle.std.proofs.shelf.Tests.{cases-eq, cases-lt}
 use Rattle.counting.specs.Sums.{upd}
 use Rattle.counting.specs.Tables.{upd2}
@@ -79,10 +77,3 @@ module _ {A : Type 0} where
   read-set-flat n a v i h k =
       let len : length (replicate n a) ≡ n = length-replicate n a in
       read-set (replicate n a) i v a (omega arith) k ∙ ap (λ f. upd f i v k) (fun-ext (read-flat n a))
-
-  -- A write leaves the rows as long as they were.
-  pub wide-set : (t : List (List A)) (i : ℕ) (xs : List A) (n : ℕ) → i < length t → length xs ≡ n → (a : ℕ) → length (getD t a []) ≡ n → length (getD (set t i xs) a []) ≡ n
-  wide-set t i xs n h e a w = elim (cases-eq a i) [
-    | inl q ↦ rw (q, getD-set-same t i xs [] h) e
-    | inr ne ↦ rw (getD-set-other t i a xs [] ne) w
-  ]

@@ -1,4 +1,4 @@
-// When a call is refused.
+// When a call is refused. The refusals are tried in the order that the interface gives.
 ghost use mathlib.Core.Path.{_≡_};
 ghost use mathlib.Core.List.{[], _∷_};
 ghost use Rattle.manager.specs.Answers.{answer};
@@ -13,6 +13,7 @@ use manager::refusal::Refusal;
 const LIMIT: u64 = 1_000_000_000_000_000;
 
 impl SuzukiKasami {
+    // Is there such a site?
     pub(crate) fn named(&self, site: usize) -> Result<(), Refusal>
         ensures { λ r. ⌜ r ≡ answer (refused site-order (meaning-of (state-of (now (self .entry)))) site) tt ⌝ }
     {
@@ -22,6 +23,7 @@ impl SuzukiKasami {
         Ok(())
     }
 
+    // Is there an age left to reach?
     fn unworn(&self) -> Result<(), Refusal>
         ensures { λ r. ⌜ r ≡ answer (refused (Worn ∷ []) (meaning-of (state-of (now (self .entry)))) 0) tt ⌝ }
     {
