@@ -4,9 +4,11 @@ use mathlib.Core.Bool.{Bool, true, false, cond}
 use mathlib.Core.List.{List, [], _∷_, _++_}
 use mathlib.Core.Logic.{_⊎_, inl, inr}
 use Prim.Native.Nat.{ℕ, zero, suc, _+_, _-_, _*_, _≤_, _<_, max}
+use native.Mathlib.Numerals.{add-one}
 use native.Mathlib.Omega.{arith}
 use lib.Dec.{eqb, ltb}
 use lib.ListN.{length}
+use mir.Val.{boolByte}
 use Rattle.std.proofs.shelf.Tests.{eq-eqb, ne-eqb, cond-true, cond-false, cases-eq}
 use Rattle.std.proofs.shelf.Ways.{tells}
 use Rattle.counting.specs.Sums.{sum, one-if, count, upd, times}
@@ -16,6 +18,9 @@ upd-same f i v = cond-true (eqb i i) v (f i) (eq-eqb i i refl)
 
 pub upd-other : {A : Type 0} (f : ℕ → A) (i : ℕ) (v : A) (j : ℕ) → (j ≡ i → ⊥) → upd f i v j ≡ f j
 upd-other f i v j ne = cond-false (eqb j i) v (f j) (ne-eqb j i ne)
+
+pub sum-more : (f : ℕ → ℕ) (n : ℕ) → sum f (n + 1) ≡ sum f n + f n
+sum-more f n = rw add-one refl
 
 pub sum-ext : (f g : ℕ → ℕ) (n : ℕ) → ((i : ℕ) → i < n → f i ≡ g i) → sum f n ≡ sum g n
 sum-ext f g zero e = refl
@@ -85,6 +90,11 @@ sum-most f c (suc n) e = omega (arith, sum-most f c n (λ i h. e i (omega arith)
 pub one-if-most : (b : Bool) → one-if b ≤ 1
 one-if-most true = omega arith
 one-if-most false = omega arith
+
+-- A flag that is cast to a number.
+pub bit-is : (b : Bool) → boolByte b ≡ one-if b
+bit-is true = refl
+bit-is false = refl
 
 -- One number below n is counted once.
 pub count-one : (n x : ℕ) → x < n → sum (λ j. one-if (eqb x j)) n ≡ 1

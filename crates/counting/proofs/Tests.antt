@@ -1,11 +1,15 @@
 -- The laws of searching the numbers below n: for one that passes a test, and for the least of those in some order.
-use mathlib.Core.Path.{_≡_, refl}
-use mathlib.Core.Bool.{Bool, true, false}
+use mathlib.Core.Path.{_≡_, refl, ap}
+use mathlib.Core.Bool.{Bool, true, false, _||_}
 use mathlib.Core.Logic.{inl, inr}
-use Prim.Native.Nat.{ℕ, zero, suc, _<_}
+use Prim.Native.Nat.{ℕ, zero, suc, _+_, _<_}
+use native.Mathlib.Numerals.{add-one}
 use native.Mathlib.Omega.{arith}
 use Rattle.std.proofs.shelf.Tests.{or-cases, or-left, or-right, cases-eq, cases-bool, both-ways}
 use Rattle.counting.specs.Tests.{any}
+
+pub any-next : (test : ℕ → Bool) (n : ℕ) → any test (n + 1) ≡ (any test n || test n)
+any-next test n = ap (any test) (add-one n)
 
 pub any-some : (test : ℕ → Bool) (n : ℕ) → any test n ≡ true → (j : ℕ) × (j < n) × (test j ≡ true)
 any-some test zero h = grind arith

@@ -17,6 +17,10 @@ abbrev pub answer : {A : Type 0} → Option Refusal → A → Result A Refusal
 answer None a = Ok a
 answer (Some r) a = Err r
 
+-- The refusal if it is due, or else nothing.
+abbrev pub refuse-if : Bool → Refusal → Result (Unit {0}) Refusal
+refuse-if due r = answer (cond due (Some r) None) tt
+
 -- The first number below n that passes the test.
 abbrev pub first : (ℕ → Bool) → ℕ → Option ℕ
 first test zero = None

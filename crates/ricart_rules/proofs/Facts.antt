@@ -14,6 +14,7 @@ use Rattle.counting.proofs.Sums.{one-if-most}
 use Rattle.counting.proofs.Tables.{total-add}
 use Rattle.counting.proofs.Tests.{any-some, any-from, any-none, none-any}
 use Rattle.manager.specs.Meaning.{is-holding, is-waiting}
+use Rattle.manager.proofs.Statuses.{holds-of}
 use Rattle.manager.specs.declared.status.Status.{Status}
 use Rattle.manager.specs.declared.status.Status.the-variants.{Idle, Waiting, Holding}
 use Rattle.ricart_rules.specs.Invariant.{Sound}
@@ -22,9 +23,6 @@ use Rattle.ricart_rules.specs.Rules.{requests, replies, messages}
 use Rattle.ricart_rules.specs.State.{State, earlier, is-requested, is-deferred, is-replied, is-received, answered, lacks}
 use Rattle.ricart_rules.specs.declared.Stage.{Stage}
 use Rattle.ricart_rules.specs.declared.Stage.the-variants.{Unasked, Deferred, Received}
-
-pub holds-of : (x : Status) → is-holding x ≡ true → x ≡ Holding
-holds-of x h = grind arith
 
 pub deferred-of : (x : Stage) → is-deferred x ≡ true → x ≡ Deferred
 deferred-of x h = grind arith

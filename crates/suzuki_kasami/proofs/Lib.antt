@@ -1,4 +1,3 @@
-pub mod Accepted
 pub mod Delivery
 pub mod Gathering
 pub mod Links

@@ -13,8 +13,8 @@ use Rattle.std.specs.declared.option.Option.{Option}
 use Rattle.std.specs.declared.option.Option.the-variants.{Some, None}
 use Rattle.counting.specs.Tables.{upd2}
 use Rattle.counting.proofs.Tables.{upd2-same, upd2-row, upd2-column}
+use Rattle.counting.proofs.Arrays.{read-set2}
 use Rattle.suzuki_kasami.specs.Reading.{link-of}
-use Rattle.suzuki_kasami.proofs.States.{read-set2}
 
 one-row : (near apart : Bool) (v : ℕ) (old : Option ℕ) → (near ≡ false → old ≡ None) → (apart ≡ false → old ≡ None) → cond (near && (near && apart)) (Some v) None ≡ cond (near && apart) (Some v) old
 one-row true true v old far loop = refl

@@ -1,15 +1,13 @@
 -- REQUESTs as flags: which are set, and how many.
 use mathlib.Core.Path.{_≡_, refl, sym}
 use mathlib.Core.Bool.{Bool, true, false, cond, _&&_}
-use mathlib.Core.List.{[]}
-use Prim.Native.Nat.{ℕ, _+_, _<_}
-use native.Mathlib.Numerals.{add-one}
+use mathlib.Core.List.{List, []}
+use Prim.Native.Nat.{ℕ, _<_}
 use lib.Dec.{ltb}
 use lib.ListN.{getD}
-use mir.Val.{boolByte}
 use Rattle.std.proofs.shelf.Tests.{true≢false, cond-false, and-right, lt-ltb}
 use Rattle.std.specs.declared.option.Option.the-variants.{Some, None}
-use Rattle.counting.specs.Sums.{sum, one-if}
+use Rattle.counting.specs.Sums.{one-if}
 use Rattle.suzuki_rules.specs.Rules.{requests}
 use Rattle.suzuki_kasami.specs.Reading.{state-of}
 use Rattle.suzuki_kasami.specs.declared.state.SuzukiKasami.{SuzukiKasami}
@@ -26,10 +24,3 @@ one-sent false flag v e = absurd (true≢false (sym e))
 pub cell-is : (m : SuzukiKasami) (a b : ℕ) → b < m .sites → requests (state-of m) a b ≡ one-if (getD (getD (m .requests) a []) b false)
 cell-is m a b h =
     one-sent (ltb b (m .sites)) (getD (getD (m .requests) a []) b false) (getD (getD (m .known) a []) a 0) (lt-ltb b (m .sites) h)
-
-pub bit-is : (flag : Bool) → boolByte flag ≡ one-if flag
-bit-is true = refl
-bit-is false = refl
-
-pub sum-more : (f : ℕ → ℕ) (n : ℕ) → sum f (n + 1) ≡ sum f n + f n
-sum-more f n = rw add-one refl

@@ -5,6 +5,12 @@ ghost use Rattle.suzuki_rules.specs.Reading.{meaning-of};
 ghost use Rattle.suzuki_rules.specs.Rules.{parked, asked, freed, Delivered};
 ghost use Rattle.suzuki_kasami.specs.Reading.{state-of};
 use crate::state::SuzukiKasami;
+use manager::checks::check_age;
+use manager::checks::check_holding;
+use manager::checks::check_idle;
+use manager::checks::check_site;
+use manager::checks::check_thing;
+use manager::holder::first_holding;
 use manager::interface::Manager;
 use manager::refusal::Refusal;
 use manager::status::Status;
@@ -29,22 +35,17 @@ pub impl Manager for SuzukiKasami as SuzukiKasamiManager {
     }
 
     fn status(&self, site: usize) -> Result<Status, Refusal> {
-        self.named(site)?;
+        check_site(site, self.sites)?;
         Ok(self.status[site])
     }
 
     fn called(&self, site: usize) -> Result<bool, Refusal> {
-        self.named(site)?;
+        check_site(site, self.sites)?;
         Ok(self.is_called(site))
     }
 
     fn holder(&self) -> Option<usize> {
-        for site in 0..self.sites {
-            if self.is_holding(site) {
-                return Some(site);
-            }
-        }
-        None
+        first_holding(&self.status, self.sites)
     }
 
     fn underway(&self) -> u64 {
@@ -56,24 +57,29 @@ pub impl Manager for SuzukiKasami as SuzukiKasamiManager {
     }
 
     fn park(&mut self, site: usize) -> Result<(), Refusal> {
-        self.named(site)?;
+        check_site(site, self.sites)?;
         *self = SuzukiKasami::parked(self.sites, site);
         Ok(())
     }
 
     fn ask(&mut self, site: usize) -> Result<Status, Refusal> {
-        self.may_ask(site)?;
+        check_site(site, self.sites)?;
+        check_age(self.age)?;
+        check_idle(self.status[site])?;
         Ok(self.request(site))
     }
 
     fn free(&mut self, site: usize) -> Result<(), Refusal> {
-        self.may_free(site)?;
+        check_site(site, self.sites)?;
+        check_age(self.age)?;
+        check_holding(self.status[site])?;
         self.release(site);
         Ok(())
     }
 
     fn step(&mut self, k: u64) -> Result<Option<usize>, Refusal> {
-        self.may_step(k)?;
+        check_age(self.age)?;
+        check_thing(k, self.things())?;
         Ok(self.deliver(k))
     }
 }

@@ -5,7 +5,6 @@ mod freeing;
 mod making;
 mod questions;
 mod queue;
-mod refusing;
 mod requests;
 pub mod state;
 mod stepping;

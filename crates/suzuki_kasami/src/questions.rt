@@ -6,8 +6,6 @@ ghost use Rattle.suzuki_rules.specs.Reading.{meaning-of, is-called, wanted};
 ghost use Rattle.suzuki_rules.specs.State.{has-token, wants};
 ghost use Rattle.suzuki_kasami.specs.Reading.{state-of};
 use crate::state::SuzukiKasami;
-use manager::status::Status;
-use manager::status::StatusPartialEq;
 use suzuki_rules::Token;
 
 impl SuzukiKasami {
@@ -25,14 +23,14 @@ impl SuzukiKasami {
         requires { ⌜ site < 16 ⌝ }
         ensures { λ r. ⌜ r ≡ is-idle (state-of (now (self .entry)) .status site) ⌝ }
     {
-        self.status[site] == Status::Idle
+        self.status[site].is_idle()
     }
 
     pub(crate) fn is_holding(&self, site: usize) -> bool
         requires { ⌜ site < 16 ⌝ }
         ensures { λ r. ⌜ r ≡ is-holding (state-of (now (self .entry)) .status site) ⌝ }
     {
-        self.status[site] == Status::Holding
+        self.status[site].is_holding()
     }
 
     // As far as one site knows, does the other wait?

@@ -11,7 +11,9 @@ use Rattle.std.specs.declared.option.Option.the-variants.{Some, None}
 use Rattle.std.proofs.shelf.Tests.{and-parts, and-from, or-cases, or-left, or-right, not-true, cases-eq}
 use Rattle.std.proofs.shelf.Ways.{tells}
 use Rattle.counting.specs.Sums.{times}
+use Rattle.counting.proofs.Tests.{any-some, any-from}
 use Rattle.manager.specs.Meaning.{is-holding}
+use Rattle.manager.proofs.Statuses.{holds-of}
 use Rattle.manager.specs.declared.status.Status.{Status}
 use Rattle.manager.specs.declared.status.Status.the-variants.{Idle, Waiting, Holding}
 use Rattle.suzuki_rules.specs.State.{State, has-token, wants}
@@ -23,11 +25,6 @@ use Rattle.suzuki_rules.specs.declared.Token.the-variants.{At, Sent}
 
 pub has-token-at : (s : State) (i : ℕ) → has-token s i ≡ true → s .token ≡ At i
 has-token-at s i h = grind (arith, tells)
-
-pub holds-of : (x : Status) → is-holding x ≡ true → x ≡ Holding
-holds-of Idle h = grind arith
-holds-of Waiting h = grind arith
-holds-of Holding h = refl
 
 -- A barred site is told by the token's way to another.
 pub barred-sent : (s : State) (i : ℕ) → is-barred s i ≡ true → (t : ℕ) × (s .token ≡ Sent t) × (t ≡ i → ⊥)
@@ -41,18 +38,12 @@ pub sent-bars : (s : State) (t i : ℕ) → s .token ≡ Sent t → (t ≡ i →
 sent-bars s t i e ne = grind (arith, tells)
 
 pub wanted-some : (s : State) (i n : ℕ) → wanted s i n ≡ true → (j : ℕ) × (j < n) × (j ≡ i → ⊥) × (wants s i j ≡ true)
-wanted-some s i zero h = grind arith
-wanted-some s i (suc n) h = elim (or-cases (wanted s i n) (wants s i n && not (eqb n i)) h) [
-  | inl p ↦ let w = wanted-some s i n p in (w .0, omega (arith, w .1), w .2, w .3)
-  | inr p ↦ (n, omega arith, λ e. grind (arith, tells), and-parts (wants s i n) (not (eqb n i)) p .0)
-]
+wanted-some s i n h =
+    let w = any-some (λ j. wants s i j && not (eqb j i)) n h in
+    (w .0, w .1, λ e. grind (arith, tells, w .2), and-parts (wants s i (w .0)) (not (eqb (w .0) i)) (w .2) .0)
 
 pub wanted-from : (s : State) (i j n : ℕ) → j < n → (j ≡ i → ⊥) → wants s i j ≡ true → wanted s i n ≡ true
-wanted-from s i j zero h ne w = absurd (omega arith)
-wanted-from s i j (suc n) h ne w = elim (cases-eq j n) [
-  | inl e ↦ or-right (wanted s i n) (wants s i n && not (eqb n i)) (grind (arith, tells))
-  | inr a ↦ or-left (wanted s i n) (wants s i n && not (eqb n i)) (wanted-from s i j n (omega arith) ne w)
-]
+wanted-from s i j n h ne w = any-from (λ j. wants s i j && not (eqb j i)) n j h (grind (arith, tells))
 
 -- The queue has a site, or site i knows one to wait.
 abbrev pub Wanted : State → ℕ → Type 0

@@ -4,12 +4,13 @@ use Prim.Native.Nat.{ℕ, _-_, _≤_, _<_}
 use native.Mathlib.Omega.{arith}
 use Rattle.std.proofs.shelf.Ways.{tells}
 use Rattle.counting.proofs.Sums.{upd-same, upd-other, sum-zero}
+use Rattle.counting.specs.Sizes.{fitted}
 use Rattle.counting.specs.Tables.{total, row}
 use Rattle.manager.specs.Effects.{Parked}
 use Rattle.manager.specs.declared.status.Status.the-variants.{Idle, Holding}
 use Rattle.suzuki_rules.specs.Invariant.{Sound}
 use Rattle.suzuki_rules.specs.Reading.{meaning-of}
-use Rattle.suzuki_rules.specs.Rules.{fresh, fitted, made, parked, requests}
+use Rattle.suzuki_rules.specs.Rules.{fresh, made, parked, requests}
 use Rattle.suzuki_rules.specs.State.{State}
 
 module _ (n g : ℕ) (low : 2 ≤ n) (high : n ≤ 16) (within : g < n) where

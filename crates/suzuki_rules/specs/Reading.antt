@@ -1,9 +1,10 @@
 -- What a state of the algorithm means as a manager. Assumes nothing.
 use mathlib.Core.Bool.{Bool, true, false, not, _&&_, _||_}
 use mathlib.Core.List.{List, [], _∷_}
-use Prim.Native.Nat.{ℕ, zero, suc, _+_, _-_, _*_}
+use Prim.Native.Nat.{ℕ, _+_, _-_, _*_}
 use lib.Dec.{eqb}
 use Rattle.counting.specs.Tables.{total}
+use Rattle.counting.specs.Tests.{any}
 use Rattle.manager.specs.Meaning.{Meaning, is-holding}
 use Rattle.suzuki_rules.specs.Rules.{requests}
 use Rattle.suzuki_rules.specs.State.{State, wants}
@@ -12,8 +13,7 @@ use Rattle.suzuki_rules.specs.declared.Token.the-variants.{At, Sent}
 
 -- Does i know one of the sites below n, other than itself, to wait?
 abbrev pub wanted : State → ℕ → ℕ → Bool
-wanted s i zero = false
-wanted s i (suc n) = wanted s i n || (wants s i n && not (eqb n i))
+wanted s i n = any (λ j. wants s i j && not (eqb j i)) n
 
 abbrev pub empty : List ℕ → Bool
 empty [] = true

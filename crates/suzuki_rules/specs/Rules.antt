@@ -3,10 +3,11 @@ use mathlib.Core.Path.{_≡_}
 use mathlib.Core.Bool.{Bool, true, false, cond, not, _&&_}
 use mathlib.Core.List.{List, [], _∷_, _++_}
 use mathlib.Core.Logic.{_⊎_}
-use Prim.Native.Nat.{ℕ, zero, suc, _+_, _-_, _<_, max, min}
+use Prim.Native.Nat.{ℕ, zero, suc, _+_, _-_, _<_, max}
 use lib.Dec.{eqb, ltb}
 use Rattle.std.specs.declared.option.Option.{Option}
 use Rattle.std.specs.declared.option.Option.the-variants.{Some, None}
+use Rattle.counting.specs.Sizes.{fitted}
 use Rattle.counting.specs.Sums.{one-if, upd}
 use Rattle.counting.specs.Tables.{before, total, upd2}
 use Rattle.manager.specs.Meaning.{is-idle}
@@ -30,10 +31,6 @@ fresh n g = record {
 
 abbrev pub parked : State → ℕ → State
 parked s g = fresh (s .sites) g
-
--- A number of sites, brought within 2 to 16.
-abbrev pub fitted : ℕ → ℕ
-fitted n = max 2 (min n 16)
 
 -- A new manager is parked at its last site.
 abbrev pub made : ℕ → State

@@ -1,5 +1,6 @@
 use mathlib.Core.Path.{sym, subst}
 use Rattle.manager.specs.Effects.{Parked, Asked, Freed}
+use Rattle.manager.proofs.Accepted.{site-named, ask-accepted, free-accepted}
 use Rattle.suzuki_rules.specs.Invariant.{Sound}
 use Rattle.suzuki_rules.specs.Reading.{meaning-of}
 use Rattle.suzuki_rules.proofs.Ask.{ask-lawful}
@@ -8,7 +9,6 @@ use Rattle.suzuki_rules.proofs.Lawful.{lawful, bounded}
 use Rattle.suzuki_rules.proofs.Park.{park-lawful}
 use Rattle.suzuki_rules.proofs.Step.{step-lawful}
 use Rattle.suzuki_kasami.specs.Reading.{state-of}
-use Rattle.suzuki_kasami.proofs.Accepted.{site-named, ask-accepted, free-accepted}
 use Rattle.suzuki_kasami.proofs.calls.SuzukiKasamiManager.the-impl.Needs as need
 
 pub laws-law : need.laws-law
@@ -21,10 +21,10 @@ laws-law = record {
   asking = λ m n i sound accepted asks.
       let s = state-of m in
       let known = ask-accepted (meaning-of s) i accepted in
-      subst (λ t. Sound t × Asked (meaning-of s) i (meaning-of t)) (sym asks) (ask-lawful s i sound (known .0) (known .1));
+      subst (λ t. Sound t × Asked (meaning-of s) i (meaning-of t)) (sym asks) (ask-lawful s i sound (known .0) (known .2));
   freeing = λ m n i sound accepted frees.
       let s = state-of m in
       let known = free-accepted (meaning-of s) i accepted in
-      subst (λ t. Sound t × Freed (meaning-of s) i (meaning-of t)) (sym frees) (free-lawful s i sound (known .0) (known .1));
+      subst (λ t. Sound t × Freed (meaning-of s) i (meaning-of t)) (sym frees) (free-lawful s i sound (known .0) (known .2));
   stepping = λ m n k grant sound accepted steps. step-lawful (state-of m) k grant (state-of n) sound steps;
 }

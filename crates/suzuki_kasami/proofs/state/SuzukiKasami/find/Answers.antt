@@ -2,9 +2,10 @@ use mathlib.Core.Path.{_≡_, ap, _∙_}
 use native.Mathlib.Omega.{arith}
 use Rattle.counting.specs.Sums.{sum, one-if}
 use Rattle.counting.specs.Tables.{row}
+use Rattle.counting.proofs.Sums.{sum-more}
 use Rattle.suzuki_rules.specs.Rules.{requests}
 use Rattle.suzuki_kasami.specs.Reading.{state-of}
-use Rattle.suzuki_kasami.proofs.Sending.{cell-is, sum-more}
+use Rattle.suzuki_kasami.proofs.Sending.{cell-is}
 use Rattle.suzuki_kasami.proofs.state.SuzukiKasami.find.Needs as need
 use Rattle.suzuki_kasami.proofs.state.SuzukiKasami.find.Needs.{then-self-a·else-left-eq0, else-self-a}
 

@@ -3,7 +3,8 @@ use mathlib.Core.Bool.{false}
 use native.Mathlib.Omega.{arith}
 use lib.Dec.{ltb}
 use Rattle.manager.specs.declared.status.Status.the-variants.{Idle, Holding}
-use Rattle.suzuki_kasami.proofs.States.{same-state, read-flat, read-flat2, read-set-flat}
+use Rattle.counting.proofs.Arrays.{read-flat, read-flat2, read-set-flat}
+use Rattle.suzuki_kasami.proofs.States.{same-state}
 use Rattle.suzuki_kasami.proofs.Sending.{no-link}
 use Rattle.suzuki_kasami.proofs.state.SuzukiKasami.parked.Needs as need
 

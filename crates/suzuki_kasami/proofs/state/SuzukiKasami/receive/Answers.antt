@@ -9,12 +9,13 @@ use Rattle.manager.specs.Meaning.{is-idle}
 use Rattle.manager.specs.declared.status.Status.the-variants.{Idle}
 use Rattle.counting.specs.Tables.{upd2}
 use Rattle.counting.proofs.Tables.{upd2-same}
+use Rattle.counting.proofs.Arrays.{read-set2}
 use Rattle.suzuki_rules.specs.State.{has-token}
 use Rattle.suzuki_rules.specs.declared.Token.the-variants.{Sent}
 use Rattle.suzuki_kasami.specs.Reading.{state-of}
 use Rattle.suzuki_kasami.proofs.Links.{links-received}
 use Rattle.suzuki_kasami.proofs.Seeking.{rests-and-wants}
-use Rattle.suzuki_kasami.proofs.States.{same-state, read-set2}
+use Rattle.suzuki_kasami.proofs.States.{same-state}
 use Rattle.suzuki_kasami.proofs.state.SuzukiKasami.receive.Needs as need
 
 pub returns : need.returns

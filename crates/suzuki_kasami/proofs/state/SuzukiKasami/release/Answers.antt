@@ -6,12 +6,13 @@ use lib.ListN.{length, getD}
 use borrow.Author.Needs.{needs}
 use Rattle.std.specs.declared.option.Option.the-variants.{Some, None}
 use Rattle.manager.specs.declared.status.Status.the-variants.{Idle}
+use Rattle.counting.proofs.Arrays.{read-reset, read-set}
 use Rattle.suzuki_rules.specs.Rules.{order, searched, token-after, rest}
 use Rattle.suzuki_rules.specs.declared.Token.the-variants.{Sent}
 use Rattle.suzuki_kasami.specs.Reading.{state-of, waiting-list}
 use Rattle.suzuki_kasami.proofs.Gathering.{gathered-sound}
 use Rattle.suzuki_kasami.proofs.Seeking.{passed-to}
-use Rattle.suzuki_kasami.proofs.States.{same-state, read-reset, read-set}
+use Rattle.suzuki_kasami.proofs.States.{same-state}
 use Rattle.suzuki_kasami.proofs.state.SuzukiKasami.release.Needs as need
 
 pub returns : need.returns

@@ -9,9 +9,10 @@ use borrow.Author.Needs.{needs}
 use Rattle.std.specs.declared.option.Option.the-variants.{Some}
 use Rattle.manager.specs.declared.status.Status.the-variants.{Idle, Waiting}
 use Rattle.counting.specs.Tables.{upd2}
+use Rattle.counting.proofs.Arrays.{read-set, read-set2}
 use Rattle.suzuki_kasami.specs.Reading.{link-of}
 use Rattle.suzuki_kasami.proofs.Links.{links-sent}
-use Rattle.suzuki_kasami.proofs.States.{same-state, read-set, read-set2}
+use Rattle.suzuki_kasami.proofs.States.{same-state}
 use Rattle.suzuki_kasami.proofs.state.SuzukiKasami.send_requests.Needs as need
 
 pub returns : need.returns

@@ -1,8 +1,8 @@
 use native.Mathlib.Omega.{arith}
 use Rattle.counting.specs.Tables.{row}
+use Rattle.counting.proofs.Sums.{sum-more}
 use Rattle.suzuki_rules.specs.Rules.{requests}
 use Rattle.suzuki_kasami.specs.Reading.{state-of}
-use Rattle.suzuki_kasami.proofs.Sending.{sum-more}
 use Rattle.suzuki_kasami.proofs.state.SuzukiKasami.sent.Needs as need
 
 pub loop-i-again : need.loop-i-again

@@ -4,10 +4,10 @@ use Prim.Native.Nat.{_≤_}
 use native.Mathlib.Omega.{arith}
 use lib.ListN.{getD}
 use Rattle.counting.specs.Sums.{one-if}
-use Rattle.counting.proofs.Sums.{one-if-most}
+use Rattle.counting.proofs.Sums.{one-if-most, bit-is, sum-more}
 use Rattle.suzuki_rules.specs.Rules.{requests}
 use Rattle.suzuki_kasami.specs.Reading.{state-of}
-use Rattle.suzuki_kasami.proofs.Sending.{cell-is, bit-is, sum-more}
+use Rattle.suzuki_kasami.proofs.Sending.{cell-is}
 use Rattle.suzuki_kasami.proofs.state.SuzukiKasami.sent_by.Needs as need
 
 pub loop-j-again : need.loop-j-again

@@ -1,9 +1,9 @@
 use mathlib.Core.Path.{sym, ap, _∙_}
 use mathlib.Core.Bool.{not, _&&_, _||_}
 use lib.Dec.{eqb}
+use Rattle.counting.proofs.Tests.{any-next}
 use Rattle.suzuki_rules.specs.State.{wants}
 use Rattle.suzuki_kasami.specs.Reading.{state-of}
-use Rattle.suzuki_kasami.proofs.Seeking.{wanted-more}
 use Rattle.suzuki_kasami.proofs.state.SuzukiKasami.wanted.Needs as need
 use Rattle.suzuki_kasami.proofs.state.SuzukiKasami.wanted.Needs.{then-found, else-found·then-wants, else-found·else-wants}
 
@@ -13,7 +13,7 @@ loop-other-again c =
     let i = c .args .site in
     let n = c .loop-other .other in
     let apart = not (eqb n i) in
-    let more = wanted-more s i n ∙ ap (λ b. b || (wants s i n && apart)) (sym (c .loop-other .inv)) in
+    let more = any-next (λ j. wants s i j && not (eqb j i)) n ∙ ap (λ b. b || (wants s i n && apart)) (sym (c .loop-other .inv)) in
     elim (c .if-found .came) [
       | then-found w ↦
           w .found-is ∙ w .if-found .taken ∙ sym (more ∙ ap (λ b. b || (wants s i n && apart)) (w .if-found .taken))
