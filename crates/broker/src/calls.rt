@@ -17,13 +17,12 @@ ghost use Rattle.broker.specs.Reading.{records-of, keeping, one-more};
 ghost use Rattle.broker.specs.Rolling.{Rolled};
 use crate::state::Broker;
 use history::Grant;
+use manager::checks::AGE_LIMIT;
 use manager::interface::Manager;
 use manager::refusal::Refusal;
 use manager::status::Status;
 use manager::status::StatusPartialEq;
 use roll::list::Roll;
-
-const AGE_LIMIT: u64 = 1_000_000_000_000_000;
 
 impl<M: Manager> Broker<M> {
     // Asks for a site, and answers its status then. A site served there and then is a grant.

@@ -9,7 +9,7 @@ use crate::refusal::Refusal;
 use crate::status::Status;
 
 // The age at which a manager is worn out.
-const AGE_LIMIT: u64 = 1_000_000_000_000_000;
+pub const AGE_LIMIT: u64 = 1_000_000_000_000_000;
 
 // Is the site one of as many as there are?
 pub fn check_site(site: usize, sites: usize) -> Result<(), Refusal>
