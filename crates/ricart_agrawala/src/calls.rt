@@ -49,7 +49,7 @@ pub impl Manager for RicartAgrawala as RicartAgrawalaManager {
     }
 
     fn underway(&self) -> u64 {
-        self.sent_by_all()
+        self.messages()
     }
 
     fn toll(&self) -> u64 {
@@ -80,7 +80,7 @@ pub impl Manager for RicartAgrawala as RicartAgrawalaManager {
 
     fn step(&mut self, k: u64) -> Result<Option<usize>, Refusal> {
         check_age(self.age)?;
-        check_thing(k, self.sent_by_all())?;
+        check_thing(k, self.messages())?;
         Ok(self.deliver(k))
     }
 }

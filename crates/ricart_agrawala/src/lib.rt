@@ -1,5 +1,5 @@
-// Ricart and Agrawala's manager: a site sends a stamped REQUEST to the others, of which there are 1 to 15, and holds the
-// resource once each of them has sent a REPLY.
+// Ricart and Agrawala's manager, of 2 to 16 sites: one that wants the resource sends a stamped REQUEST to all others, and
+// holds once each of them has sent a REPLY.
 mod asking;
 pub mod calls;
 mod freeing;

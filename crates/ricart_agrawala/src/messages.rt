@@ -80,7 +80,7 @@ impl RicartAgrawala {
     }
 
     // How many messages are under way.
-    pub(crate) fn sent_by_all(&self) -> u64
+    pub(crate) fn messages(&self) -> u64
         ensures { λ r. ⌜ r ≡ total (messages (state-of (now (self .entry)))) (now (self .entry) .sites) ⌝ }
     {
         let mut count = 0;

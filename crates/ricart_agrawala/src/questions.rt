@@ -37,8 +37,8 @@ impl RicartAgrawala {
         ensures { λ r. ⌜ r ≡ earlier (state-of (now (self .entry))) site other ⌝ }
     {
         let number = self.number_of(site);
-        let others = self.number_of(other);
-        number < others || (number == others && site < other)
+        let rival = self.number_of(other);
+        number < rival || (number == rival && site < other)
     }
 
     // Does the site, with the other's REQUEST before it, defer the answer?
@@ -87,8 +87,8 @@ impl RicartAgrawala {
         requires { ⌜ site < 16 ⌝ }
         ensures { λ r. ⌜ r ≡ any (λ j. is-deferred (state-of (now (self .entry)) .stage j site)) (now (self .entry) .sites) ⌝ }
     {
-        for other in 0..self.sites {
-            if self.has_deferred(site, other) {
+        for waiting in 0..self.sites {
+            if self.has_deferred(site, waiting) {
                 return true;
             }
         }

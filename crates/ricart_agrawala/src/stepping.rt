@@ -1,7 +1,7 @@
 // What a step does: one of the messages under way comes to where it goes.
 ghost use mathlib.Core.Path.{_≡_};
 ghost use mathlib.Core.Bool.{cond};
-ghost use Prim.Native.Nat.{_<_};
+ghost use Prim.Native.Nat.{_<_, max};
 ghost use Rattle.manager.specs.Meaning.{limit};
 ghost use Rattle.ricart_rules.specs.Reading.{meaning-of};
 ghost use Rattle.ricart_rules.specs.Rules.{defers, received, replied, served, Delivered};
@@ -34,7 +34,7 @@ impl RicartAgrawala {
         ensures { λ _. ⌜ state-of (now (self .exit)) ≡ received (state-of (now (self .entry))) sender receiver ⌝ }
     {
         self.stages[sender][receiver] = self.answer_to(sender, receiver);
-        self.highest[receiver] = self.highest_at(receiver).max(self.number_of(sender));
+        self.highest[receiver] = self.raised(sender, receiver);
         self.age += 1;
     }
 
@@ -48,6 +48,14 @@ impl RicartAgrawala {
         } else {
             Stage::Replied
         }
+    }
+
+    // The highest number that the receiver knows when the sender's REQUEST has come.
+    fn raised(&self, sender: usize, receiver: usize) -> u64
+        requires { ⌜ sender < 16 ⌝ ∗ ⌜ receiver < 16 ⌝ }
+        ensures { λ r. ⌜ r ≡ max (state-of (now (self .entry)) .highest receiver) (state-of (now (self .entry)) .number sender) ⌝ }
+    {
+        self.highest_at(receiver).max(self.number_of(sender))
     }
 
     // A REPLY comes to its receiver, which holds if it was the last. Answers the receiver then.

@@ -5,5 +5,5 @@ use Rattle.ricart_rules.specs.State.{is-deferred}
 use Rattle.ricart_agrawala.specs.Reading.{state-of}
 use Rattle.ricart_agrawala.proofs.state.RicartAgrawala.has_deferred_any.Given as given
 
-abbrev pub Inv-loop-other : given.InvT-loop-other
-Inv-loop-other l = any (λ j. is-deferred (state-of (l .self) .stage j (l .site))) (l .other) ≡ false
+abbrev pub Inv-loop-waiting : given.InvT-loop-waiting
+Inv-loop-waiting l = any (λ j. is-deferred (state-of (l .self) .stage j (l .site))) (l .waiting) ≡ false

@@ -1,6 +1,5 @@
 use mathlib.Core.Path.{_≡_, refl, ap, _∙_}
 use mathlib.Core.List.{[]}
-use Prim.Native.Nat.{max}
 use native.Mathlib.Omega.{arith}
 use lib.ListN.{length, getD}
 use borrow.Author.Needs.{needs}
@@ -21,11 +20,10 @@ returns c =
     let rows : length (m .stages) ≡ 16 = search needs in
     let heights : length (m .highest) ≡ 16 = search needs in
     let wide : length (getD (m .stages) a []) ≡ 16 = m .wide a (omega arith) in
-    let larger : c .max .result ≡ max (s .highest b) (s .number a) = cc in
     same-state _ _ record {
       sites = refl;
       status = λ i. refl;
-      highest = λ i. read-set (m .highest) b (c .max .result) 1 (omega arith) i ∙ ap (λ v. upd (s .highest) b v i) larger;
+      highest = λ i. read-set (m .highest) b (c .raised .result) 1 (omega arith) i ∙ ap (λ v. upd (s .highest) b v i) (c .raised .ensures);
       number = λ i. refl;
       stage = λ x y. read-set2 (m .stages) a b (c .answer-to .result) Unasked (omega arith) (omega arith) x y ∙ ap (λ v. upd2 (s .stage) a b v x y) (c .answer-to .ensures);
       age = refl;

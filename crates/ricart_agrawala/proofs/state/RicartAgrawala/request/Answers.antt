@@ -37,12 +37,12 @@ returns c =
     record {
       state = λ sound.
           let low : s .highest i ≤ m .age + 1 = sound .young-highest i (omega arith) in
-          let next : c .saturating-add .result ≡ s .highest i + 1 = omega (arith, c .saturating-add .ensures, c .highest-at .ensures) in
+          let next : c .next-number .result ≡ s .highest i + 1 = omega (arith, c .next-number .ensures) in
           same-state _ _ record {
             sites = refl;
             status = status;
             highest = λ j. refl;
-            number = λ j. read-set (m .number) i (c .saturating-add .result) 1 (omega arith) j ∙ ap (λ v. upd (s .number) i v j) next;
+            number = λ j. read-set (m .number) i (c .next-number .result) 1 (omega arith) j ∙ ap (λ v. upd (s .number) i v j) next;
             stage = others-written (m .stages) (m .sites) i Requested (c .with-others .result) (omega arith) (c .with-others .ensures);
             age = refl;
           };

@@ -3,7 +3,7 @@ use Rattle.counting.specs.Tables.{row}
 use Rattle.counting.proofs.Sums.{sum-more}
 use Rattle.ricart_rules.specs.Rules.{messages}
 use Rattle.ricart_agrawala.specs.Reading.{state-of}
-use Rattle.ricart_agrawala.proofs.state.RicartAgrawala.sent_by_all.Needs as need
+use Rattle.ricart_agrawala.proofs.state.RicartAgrawala.messages.Needs as need
 
 pub loop-sender-again : need.loop-sender-again
 loop-sender-again c =
