@@ -1,9 +1,11 @@
 -- What arrays, and tables as arrays of rows, read as after a write.
 use mathlib.Core.Path.{_≡_, refl, sym, ap, fun-ext, _∙_}
+use mathlib.Core.Bool.{Bool, true, false, cond}
 use mathlib.Core.List.{List, [], _∷_}
 use mathlib.Core.Logic.{inl, inr}
 use Prim.Native.Nat.{ℕ, zero, suc, _<_}
 use native.Mathlib.Omega.{arith}
+use lib.Dec.{eqb}
 use lib.ListN.{length, getD, set, replicate}
 use Rattle.std.proofs.shelf.Lists.{getD-set-same, getD-set-other, length-replicate, getD-past, set-past}
 use Rattle.std.proofs.shelf.Tests.{cases-eq, cases-lt}
@@ -60,3 +62,18 @@ module _ {A : Type 0} where
     | inl q ↦ rw (q, getD-set-same t i xs [] h) e
     | inr ne ↦ rw (getD-set-other t i a xs [] ne) w
   ]
+
+  pub wide-flat : (n m : ℕ) (a : A) (i : ℕ) → i < n → length (getD (replicate n (replicate m a)) i []) ≡ m
+  wide-flat zero m a i h = absurd (omega arith)
+  wide-flat (suc n) m a zero h = length-replicate m a
+  wide-flat (suc n) m a (suc i) h = wide-flat n m a i (omega arith)
+
+module _ {A : Type 0} where
+  cond-read : (here : Bool) (xs ys : List A) (k : ℕ) (d : A) → getD (cond here xs ys) k d ≡ cond here (getD xs k d) (getD ys k d)
+  cond-read true xs ys k d = refl
+  cond-read false xs ys k d = refl
+
+  -- A whole row is written.
+  pub read-row : (t : List (List A)) (i : ℕ) (xs : List A) (d : A) → i < length t → (a b : ℕ) → getD (getD (set t i xs) a []) b d ≡ cond (eqb a i) (getD xs b d) (getD (getD t a []) b d)
+  read-row t i xs d h a b =
+      ap (λ ys. getD ys b d) (read-set t i xs [] h a) ∙ cond-read (eqb a i) xs (getD t a []) b d

@@ -1,15 +1,18 @@
 -- The laws of searching the numbers below n: for one that passes a test, and for the least of those in some order.
-use mathlib.Core.Path.{_≡_, refl, ap}
+use mathlib.Core.Path.{_≡_, refl, ap, _∙_}
 use mathlib.Core.Bool.{Bool, true, false, _||_}
 use mathlib.Core.Logic.{inl, inr}
 use Prim.Native.Nat.{ℕ, zero, suc, _+_, _<_}
 use native.Mathlib.Numerals.{add-one}
 use native.Mathlib.Omega.{arith}
-use Rattle.std.proofs.shelf.Tests.{or-cases, or-left, or-right, cases-eq, cases-bool, both-ways}
+use Rattle.std.proofs.shelf.Tests.{or-cases, or-from, or-left, or-right, cases-eq, cases-bool, both-ways}
 use Rattle.counting.specs.Tests.{any}
 
 pub any-next : (test : ℕ → Bool) (n : ℕ) → any test (n + 1) ≡ (any test n || test n)
 any-next test n = ap (any test) (add-one n)
+
+pub any-stays : (test : ℕ → Bool) (n : ℕ) → any test n ≡ false → test n ≡ false → any test (n + 1) ≡ false
+any-stays test n none e = any-next test n ∙ or-from (any test n) (test n) none e
 
 pub any-some : (test : ℕ → Bool) (n : ℕ) → any test n ≡ true → (j : ℕ) × (j < n) × (test j ≡ true)
 any-some test zero h = grind arith

@@ -1,0 +1,4 @@
+pub mod Answered
+pub mod Found
+pub mod Reading
+pub mod Receiving
