@@ -4,6 +4,9 @@ mod serving;
 
 use broker::state::Broker;
 use history::Grant;
+use manager::interface::Manager;
+use ricart_agrawala::calls::RicartAgrawalaManager;
+use ricart_agrawala::state::RicartAgrawala;
 use roll::list::Roll;
 use serving::serve;
 use std::env;
@@ -18,12 +21,11 @@ const TURNS: usize = 2;
 
 fn run(rt: &LibcRuntime) -> Result<(), AnyError> {
     let sites = sites_wanted(rt)?;
-    let mut broker = Broker::new(SuzukiKasami::new(sites));
-    let mut memory = [Grant { site: 0, waited: 0 }; 64];
-    let mut roll = Roll::new(&mut memory);
-    serve(&mut broker, &mut roll, TURNS);
-    print_grants(rt, &roll)?;
-    print_totals(rt, &broker)
+    match kind_wanted(rt)? {
+        'S' => serve_and_print(rt, SuzukiKasami::new(sites)),
+        'R' => serve_and_print(rt, RicartAgrawala::new(sites)),
+        _ => Err("the kind is S or R".into()),
+    }
 }
 
 // The number of sites that the first argument gives.
@@ -32,6 +34,23 @@ fn sites_wanted(rt: &LibcRuntime) -> Result<usize, AnyError> {
         Some(text) => Ok(text.as_str().parse::<usize>()?),
         None => Ok(DEFAULT_SITES),
     }
+}
+
+// The kind letter that the second argument gives.
+fn kind_wanted(rt: &LibcRuntime) -> Result<char, AnyError> {
+    match env::args(rt)?.nth(2) {
+        Some(text) => Ok(text.as_str().parse::<char>()?),
+        None => Ok(SuzukiKasamiManager::KIND),
+    }
+}
+
+fn serve_and_print<M: Manager + Drop>(rt: &LibcRuntime, manager: M) -> Result<(), AnyError> {
+    let mut broker = Broker::new(manager);
+    let mut memory = [Grant { site: 0, waited: 0 }; 64];
+    let mut roll = Roll::new(&mut memory);
+    serve(&mut broker, &mut roll, TURNS);
+    print_grants(rt, &roll)?;
+    print_totals(rt, &broker)
 }
 
 fn print_grants(rt: &LibcRuntime, roll: &Roll<'_, Grant>) -> Result<(), AnyError> {
@@ -45,13 +64,18 @@ fn print_grants(rt: &LibcRuntime, roll: &Roll<'_, Grant>) -> Result<(), AnyError
     Ok(())
 }
 
-fn print_totals(rt: &LibcRuntime, broker: &Broker<SuzukiKasami>) -> Result<(), AnyError> {
+fn print_totals<M: Manager>(rt: &LibcRuntime, broker: &Broker<M>) -> Result<(), AnyError> {
+    let kind = M::KIND;
+    let sites = broker.sites();
     let asks = broker.asks();
     let frees = broker.frees();
     let steps = broker.steps();
     let toll = broker.toll();
     let bound = toll.saturating_mul(asks.saturating_add(frees).saturating_add(1));
-    println!(rt, "asks {asks}, frees {frees}, steps {steps}")?;
+    println!(
+        rt,
+        "kind {kind}, {sites} sites: asks {asks}, frees {frees}, steps {steps}"
+    )?;
     println!(rt, "toll {toll}: at most {bound} steps")?;
     Ok(())
 }

@@ -2,7 +2,11 @@
 #[cfg(test)]
 mod refusals;
 #[cfg(test)]
+mod ricart_agrawala_runs;
+#[cfg(test)]
 mod rolls;
+#[cfg(test)]
+mod sizes;
 #[cfg(test)]
 mod suzuki_kasami_runs;
 #[cfg(test)]
