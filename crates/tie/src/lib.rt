@@ -1,0 +1,5 @@
+// The tie: two islands and an outer manager, each of any kind, that are one manager together.
+mod parts;
+mod questions;
+mod refusing;
+pub mod state;
