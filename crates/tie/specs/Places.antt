@@ -17,3 +17,8 @@ PlacedAt border i (Right j) = (border ≤ i) × (j ≡ i - border)
 abbrev pub own : (gateway offset : ℕ) → Option ℕ → Option ℕ
 own gateway offset None = None
 own gateway offset (Some i) = cond (ltb i gateway) (Some (i + offset)) None
+
+-- A site, if it is among the first 64.
+abbrev pub reachable : Option ℕ → Option ℕ
+reachable None = None
+reachable (Some i) = cond (ltb i 64) (Some i) None

@@ -1,4 +1,6 @@
 // The tie: two islands and an outer manager, each of any kind, that are one manager together.
+mod making;
+mod moving;
 mod parts;
 mod questions;
 mod refusing;

@@ -1,6 +1,6 @@
 // What a tie asks of its parts, whichever it is.
 ghost use mathlib.Core.Path.{_≡_};
-ghost use Prim.Native.Nat.{_<_, _≤_};
+ghost use Prim.Native.Nat.{_<_};
 ghost use Rattle.manager.specs.Meaning.{is-holding};
 ghost use Rattle.tie_rules.specs.Reading.{last};
 ghost use Rattle.tie_rules.specs.Sides.{due};
@@ -49,13 +49,13 @@ pub(crate) fn is_due<I: Manager, O: Manager>(gate: Gateway, island: &I, outer: &
     }
 }
 
-// The tie's number of a site of an island, whose numbers the tie raises by the offset. A gateway has none.
-pub(crate) fn own_site<I: Manager>(island: &I, offset: usize, site: Option<usize>) -> Option<usize>
-    requires { ⌜ offset < 64 ⌝ }
-    ensures { λ r. ⌜ r ≡ own (last (I·Manager .meaning (now (island .entry)))) offset site ⌝ }
+// The tie's number of a site of an island, whose numbers the tie raises by the offset. The gateway has none.
+pub(crate) fn own_site(gateway: usize, offset: usize, site: Option<usize>) -> Option<usize>
+    requires { ⌜ gateway < 64 ⌝ ∗ ⌜ offset < 64 ⌝ }
+    ensures { λ r. ⌜ r ≡ own gateway offset site ⌝ }
 {
     match site {
-        Some(site) if site < gateway_of(island) => Some(site + offset),
+        Some(site) if site < gateway => Some(site + offset),
         _ => None,
     }
 }

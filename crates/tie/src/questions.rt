@@ -4,8 +4,7 @@ ghost use Prim.Native.Nat.{_<_};
 ghost use Rattle.manager.specs.Answers.{status-shown, called-shown, holder-shown, toll-shown};
 ghost use Rattle.tie_rules.specs.Reading.{last, border, left-side, right-side, meaning-of};
 ghost use Rattle.tie_rules.specs.Sides.{due};
-ghost use Rattle.tie_rules.proofs.Questions.{own-holder, or-else};
-ghost use Rattle.tie.specs.Places.{PlacedAt};
+ghost use Rattle.tie.specs.Places.{PlacedAt, own, reachable};
 ghost use Rattle.tie.specs.Reading.{tie-of};
 use crate::parts::gateway_of;
 use crate::parts::is_due;
@@ -116,9 +115,9 @@ impl<L: Manager, R: Manager, O: Manager> Tie<L, R, O> {
 // The site that holds in an island, by the tie's number, if it is a site of the tie.
 fn own_holder<I: Manager>(island: &I, offset: usize) -> Option<usize>
     requires { ⌜ offset < 64 ⌝ }
-    ensures { λ r. ⌜ r ≡ own-holder (last (I·Manager .meaning (now (island .entry)))) offset (holder-shown (I·Manager .meaning (now (island .entry)))) ⌝ }
+    ensures { λ r. ⌜ r ≡ reachable (own (last (I·Manager .meaning (now (island .entry)))) offset (holder-shown (I·Manager .meaning (now (island .entry))))) ⌝ }
 {
-    match own_site(island, offset, island.holder()) {
+    match own_site(gateway_of(island), offset, island.holder()) {
         Some(site) if site < MOST_SITES => Some(site),
         _ => None,
     }

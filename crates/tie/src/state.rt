@@ -26,3 +26,13 @@ pub(crate) enum Place {
     Left(usize),
     Right(usize),
 }
+
+// One of the things under way: one of a part, by its number there, or the due move of a gateway.
+#[derive(Clone, Copy)]
+pub(crate) enum Thing {
+    Left(u64),
+    Right(u64),
+    Outer(u64),
+    LeftMove,
+    RightMove,
+}
