@@ -12,11 +12,12 @@ use manager::refusal::Refusal;
 use tie_rules::Gateway;
 
 // Carries out the due move of a gateway: one call in its island or at its site of the outer manager, and its next state.
-pub(crate) fn pass<I: Manager, O: Manager>(gate: &mut Gateway, island: &mut I, outer: &mut O, post: usize) -> Result<(), Refusal>
-    ensures out { λ r. ⌜ (now (gate .entry) ≡ Out → O·Manager .sound (now (outer .entry)) → refused ask-order (O·Manager .meaning (now (outer .entry))) post ≡ None → (r ≡ Ok tt) × (now (gate .exit) ≡ Coming) × (now (island .exit) ≡ now (island .entry)) × O·Manager .asks (now (outer .entry)) post (now (outer .exit))) ⌝ }
-    ensures coming { λ r. ⌜ (now (gate .entry) ≡ Coming → I·Manager .sound (now (island .entry)) → refused free-order (I·Manager .meaning (now (island .entry))) (last (I·Manager .meaning (now (island .entry)))) ≡ None → (r ≡ Ok tt) × (now (gate .exit) ≡ In) × (now (outer .exit) ≡ now (outer .entry)) × I·Manager .frees (now (island .entry)) (last (I·Manager .meaning (now (island .entry)))) (now (island .exit))) ⌝ }
-    ensures came { λ r. ⌜ (now (gate .entry) ≡ In → I·Manager .sound (now (island .entry)) → refused ask-order (I·Manager .meaning (now (island .entry))) (last (I·Manager .meaning (now (island .entry)))) ≡ None → (r ≡ Ok tt) × (now (gate .exit) ≡ Leaving) × (now (outer .exit) ≡ now (outer .entry)) × I·Manager .asks (now (island .entry)) (last (I·Manager .meaning (now (island .entry)))) (now (island .exit))) ⌝ }
-    ensures leaving { λ r. ⌜ (now (gate .entry) ≡ Leaving → O·Manager .sound (now (outer .entry)) → refused free-order (O·Manager .meaning (now (outer .entry))) post ≡ None → (r ≡ Ok tt) × (now (gate .exit) ≡ Out) × (now (island .exit) ≡ now (island .entry)) × O·Manager .frees (now (outer .entry)) post (now (outer .exit))) ⌝ }
+// It grants no site.
+pub(crate) fn pass<I: Manager, O: Manager>(gate: &mut Gateway, island: &mut I, outer: &mut O, post: usize) -> Result<Option<usize>, Refusal>
+    ensures out { λ r. ⌜ (now (gate .entry) ≡ Out → O·Manager .sound (now (outer .entry)) → refused ask-order (O·Manager .meaning (now (outer .entry))) post ≡ None → (r ≡ Ok None) × (now (gate .exit) ≡ Coming) × (now (island .exit) ≡ now (island .entry)) × O·Manager .asks (now (outer .entry)) post (now (outer .exit))) ⌝ }
+    ensures coming { λ r. ⌜ (now (gate .entry) ≡ Coming → I·Manager .sound (now (island .entry)) → refused free-order (I·Manager .meaning (now (island .entry))) (last (I·Manager .meaning (now (island .entry)))) ≡ None → (r ≡ Ok None) × (now (gate .exit) ≡ In) × (now (outer .exit) ≡ now (outer .entry)) × I·Manager .frees (now (island .entry)) (last (I·Manager .meaning (now (island .entry)))) (now (island .exit))) ⌝ }
+    ensures came { λ r. ⌜ (now (gate .entry) ≡ In → I·Manager .sound (now (island .entry)) → refused ask-order (I·Manager .meaning (now (island .entry))) (last (I·Manager .meaning (now (island .entry)))) ≡ None → (r ≡ Ok None) × (now (gate .exit) ≡ Leaving) × (now (outer .exit) ≡ now (outer .entry)) × I·Manager .asks (now (island .entry)) (last (I·Manager .meaning (now (island .entry)))) (now (island .exit))) ⌝ }
+    ensures leaving { λ r. ⌜ (now (gate .entry) ≡ Leaving → O·Manager .sound (now (outer .entry)) → refused free-order (O·Manager .meaning (now (outer .entry))) post ≡ None → (r ≡ Ok None) × (now (gate .exit) ≡ Out) × (now (island .exit) ≡ now (island .entry)) × O·Manager .frees (now (outer .entry)) post (now (outer .exit))) ⌝ }
 {
     let own = gateway_of(island);
     match *gate {
@@ -37,5 +38,5 @@ pub(crate) fn pass<I: Manager, O: Manager>(gate: &mut Gateway, island: &mut I, o
             *gate = Gateway::Out;
         }
     }
-    Ok(())
+    Ok(None)
 }

@@ -3,7 +3,7 @@ ghost use mathlib.Core.Path.{_≡_};
 ghost use mathlib.Core.List.{[], _∷_};
 ghost use Rattle.manager.specs.Answers.{answer};
 ghost use Rattle.manager.specs.Refusals.{refused, site-order, step-order};
-ghost use Rattle.manager.specs.declared.refusal.Refusal.the-variants.{Worn};
+ghost use Rattle.manager.specs.declared.refusal.Refusal.the-variants.{NoSite, Worn};
 ghost use Rattle.tie_rules.specs.Reading.{meaning-of};
 ghost use Rattle.tie.specs.Reading.{tie-of};
 use crate::state::Tie;
@@ -23,13 +23,21 @@ impl<L: Manager, R: Manager, O: Manager> Tie<L, R, O> {
         Ok(())
     }
 
-    pub(crate) fn unworn(&self) -> Result<(), Refusal>
+    fn unworn(&self) -> Result<(), Refusal>
         ensures { λ r. ⌜ r ≡ answer (refused (Worn ∷ []) (meaning-of L·Manager R·Manager O·Manager (tie-of (now (self .entry)))) 0) tt ⌝ }
     {
         if self.age >= LIMIT {
             return Err(Refusal::Worn);
         }
         Ok(())
+    }
+
+    // What refuses a call that names a site, whatever the site's status.
+    pub(crate) fn may_name(&self, site: usize) -> Result<(), Refusal>
+        ensures { λ r. ⌜ r ≡ answer (refused (NoSite ∷ (Worn ∷ [])) (meaning-of L·Manager R·Manager O·Manager (tie-of (now (self .entry)))) site) tt ⌝ }
+    {
+        self.named(site)?;
+        self.unworn()
     }
 
     pub(crate) fn may_step(&self, k: u64) -> Result<(), Refusal>
