@@ -37,7 +37,12 @@ pub(crate) fn is_holding<M: Manager>(part: &M, site: usize) -> bool
 }
 
 // Is a move of the gateway due? Its island is given, and the outer manager with the gateway's site there.
-pub(crate) fn is_due<I: Manager, O: Manager>(gate: Gateway, island: &I, outer: &O, post: usize) -> bool
+pub(crate) fn is_due<I: Manager, O: Manager>(
+    gate: Gateway,
+    island: &I,
+    outer: &O,
+    post: usize,
+) -> bool
     requires { ⌜ post < 2 ⌝ }
     ensures { λ r. ⌜ r ≡ due (record { island = I·Manager .meaning (now (island .entry)); gate = gate; gateway = last (I·Manager .meaning (now (island .entry))); post = post; offset = 0 }) (O·Manager .meaning (now (outer .entry))) ⌝ }
 {

@@ -107,7 +107,9 @@ impl<L: Manager, R: Manager, O: Manager> Tie<L, R, O> {
     pub(crate) fn whole_toll(&self) -> u64
         ensures { λ r. ⌜ r ≡ toll-shown (meaning-of L·Manager R·Manager O·Manager (tie-of (now (self .entry)))) ⌝ }
     {
-        let largest = self.left.toll().max(self.right.toll().max(self.outer.toll()));
+        let largest = self.left
+            .toll()
+            .max(self.right.toll().max(self.outer.toll()));
         (9 * (largest + 1)).min(LIMIT)
     }
 }
