@@ -1,0 +1,21 @@
+use mathlib.Core.Path.{refl}
+use Rattle.tie.specs.Reading.{tie-of}
+use Rattle.tie.proofs.Sites.{free-left, free-right}
+use Rattle.tie.proofs.Stored.{left-as-was, right-as-was}
+use Rattle.tie.proofs.state.Tie.free_island.Needs as need
+
+pub returns-in-Left : need.returns-in-Left
+returns-in-Left g c = record {
+  frees = λ v young within.
+      let t = c .args .self .now in
+      free-left (g .L·Manager) (g .R·Manager) (g .O·Manager) (tie-of t) v young (c .args .site) (c .in-Left .site) within _ _ (g .L·Manager·met .laws) (c .free .last .self) (c .in-Left .ensures tt) (left-as-was t _ (c .free .last .self)) (c .free .result) (c .free .ensures (v .left));
+  age = refl;
+}
+
+pub returns-in-Right : need.returns-in-Right
+returns-in-Right g c = record {
+  frees = λ v young within.
+      let t = c .args .self .now in
+      free-right (g .L·Manager) (g .R·Manager) (g .O·Manager) (tie-of t) v young (c .args .site) (c .in-Right .site) within _ _ (c .free-in-Right .last .self) (c .in-Right .ensures tt) (right-as-was t _ (c .free-in-Right .last .self)) (c .free-in-Right .result) (c .free-in-Right .ensures (v .right));
+  age = refl;
+}

@@ -1,0 +1,4 @@
+pub mod Moving
+pub mod Places
+pub mod Reading
+pub mod Things

@@ -1,0 +1,52 @@
+// When a call is refused.
+ghost use mathlib.Core.Path.{_≡_};
+ghost use mathlib.Core.List.{[], _∷_};
+ghost use Rattle.manager.specs.Answers.{answer};
+ghost use Rattle.manager.specs.Refusals.{refused, site-order, step-order};
+ghost use Rattle.manager.specs.declared.refusal.Refusal.the-variants.{NoSite, Worn};
+ghost use Rattle.tie_rules.specs.Reading.{meaning-of};
+ghost use Rattle.tie.specs.Reading.{tie-of};
+use crate::state::Tie;
+use manager::interface::Manager;
+use manager::refusal::Refusal;
+
+// The age at which a manager is worn out.
+const LIMIT: u64 = 1_000_000_000_000_000;
+
+impl<L: Manager, R: Manager, O: Manager> Tie<L, R, O> {
+    pub(crate) fn named(&self, site: usize) -> Result<(), Refusal>
+        ensures { λ r. ⌜ r ≡ answer (refused site-order (meaning-of L·Manager R·Manager O·Manager (tie-of (now (self .entry)))) site) tt ⌝ }
+    {
+        if site >= self.count_sites() {
+            return Err(Refusal::NoSite);
+        }
+        Ok(())
+    }
+
+    fn unworn(&self) -> Result<(), Refusal>
+        ensures { λ r. ⌜ r ≡ answer (refused (Worn ∷ []) (meaning-of L·Manager R·Manager O·Manager (tie-of (now (self .entry)))) 0) tt ⌝ }
+    {
+        if self.age >= LIMIT {
+            return Err(Refusal::Worn);
+        }
+        Ok(())
+    }
+
+    // What refuses a call that names a site, whatever the site's status.
+    pub(crate) fn may_name(&self, site: usize) -> Result<(), Refusal>
+        ensures { λ r. ⌜ r ≡ answer (refused (NoSite ∷ (Worn ∷ [])) (meaning-of L·Manager R·Manager O·Manager (tie-of (now (self .entry)))) site) tt ⌝ }
+    {
+        self.named(site)?;
+        self.unworn()
+    }
+
+    pub(crate) fn may_step(&self, k: u64) -> Result<(), Refusal>
+        ensures { λ r. ⌜ r ≡ answer (refused step-order (meaning-of L·Manager R·Manager O·Manager (tie-of (now (self .entry)))) k) tt ⌝ }
+    {
+        self.unworn()?;
+        if k >= self.count_things() {
+            return Err(Refusal::NoThing);
+        }
+        Ok(())
+    }
+}
