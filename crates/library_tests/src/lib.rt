@@ -10,4 +10,6 @@ mod sizes;
 #[cfg(test)]
 mod suzuki_kasami_runs;
 #[cfg(test)]
+mod ties;
+#[cfg(test)]
 mod wait_lists;
