@@ -10,13 +10,13 @@ use Rattle.std.specs.declared.option.Option.the-variants.{Some, None}
 use mathlib.Core.Logic.{inl, inr}
 use Rattle.std.proofs.shelf.Lists.{getD-past, getD-replicate, length-replicate}
 use Rattle.std.proofs.shelf.Tests.{lt-leb, cond-false, cases-lt}
+use Rattle.manager.specs.Kinds.{Kind, Obeys}
 use Rattle.manager.specs.Meaning.{Meaning}
 use Rattle.manager.specs.Refusals.{refused, site-order}
 use Rattle.manager.specs.declared.refusal.Refusal.{Refusal}
 use Rattle.manager.specs.declared.refusal.Refusal.the-variants.{NoSite}
 use Rattle.history.specs.Promise.{Begun}
-use Rattle.history.specs.Records.{Kind, Records, started}
-use Rattle.history.proofs.Along.{Obeys}
+use Rattle.history.specs.Records.{Records, started}
 use Rattle.history.proofs.Every.{begun}
 use Rattle.broker.specs.Reading.{records-of}
 use Rattle.broker.specs.declared.state.Broker.{Broker}

@@ -12,6 +12,7 @@ use Rattle.std.specs.declared.option.Option.the-variants.{Some, None}
 use Rattle.std.specs.declared.result.Result.{Result}
 use Rattle.std.specs.declared.result.Result.the-variants.{Ok, Err}
 use Rattle.std.proofs.shelf.Tests.{cond-true, cond-false, lt-ltb, eq-eqb, ne-eqb, and-from, and-right}
+use Rattle.manager.specs.Kinds.{Kind}
 use Rattle.manager.specs.Refusals.{due}
 use Rattle.manager.specs.declared.refusal.Refusal.{Refusal}
 use Rattle.manager.specs.declared.refusal.Refusal.the-variants.{LimitReached}
@@ -20,7 +21,7 @@ use Rattle.roll.specs.declared.list.Roll.{Roll}
 use Rattle.history.specs.Calls.{Call, Done, Does, Drained, step, refusal, step-refusal, drain-refusal}
 use Rattle.history.specs.Calls.Does.{is-refused, steps}
 use Rattle.history.specs.Calls.Drained.{finished, stopped, carried}
-use Rattle.history.specs.Records.{Kind, Records, Well, under, after-step, grants-by-step}
+use Rattle.history.specs.Records.{Records, Well, under, after-step, grants-by-step}
 use Rattle.history.specs.declared.Grant.{Grant}
 use Rattle.broker.specs.Outcome.{Outcome}
 use Rattle.broker.specs.Reading.{records-of}

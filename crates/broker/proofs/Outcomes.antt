@@ -15,6 +15,7 @@ use Rattle.std.proofs.shelf.Tests.{cases-eq, cond-true}
 use Rattle.counting.specs.Sums.{upd}
 use Rattle.counting.proofs.Sums.{upd-same, upd-other}
 use Rattle.manager.specs.Answers.{answer, Call as Answered}
+use Rattle.manager.specs.Kinds.{Kind, Obeys}
 use Rattle.manager.specs.Meaning.{limit, is-holding}
 use Rattle.manager.specs.Refusals.{refused, ask-order, free-order, step-order}
 use Rattle.manager.specs.declared.status.Status.{Status}
@@ -24,9 +25,8 @@ use Rattle.manager.specs.declared.refusal.Refusal.the-variants.{RollFull}
 use Rattle.history.specs.Calls.{Call, Done, Does, ask, free, step, refusal, ask-refusal, step-refusal}
 use Rattle.history.specs.Calls.Does.{is-refused, asks, frees, steps}
 use Rattle.history.specs.Histories.{Performed}
-use Rattle.history.specs.Records.{Kind, Records, Well, under, grant, after-ask, after-free, after-step, grants-by-ask, grants-by-step}
+use Rattle.history.specs.Records.{Records, Well, under, grant, after-ask, after-free, after-step, grants-by-ask, grants-by-step}
 use Rattle.history.specs.declared.Grant.{Grant}
-use Rattle.history.proofs.Along.{Obeys}
 use Rattle.history.proofs.Every.{performed}
 use Rattle.history.proofs.Orders.{tried-front}
 use Rattle.broker.specs.Outcome.{Outcome}

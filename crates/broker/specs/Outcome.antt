@@ -4,10 +4,11 @@ use mathlib.Core.List.{List, []}
 use Rattle.std.specs.declared.result.Result.{Result}
 use Rattle.std.specs.declared.result.Result.the-variants.{Err}
 use Rattle.manager.specs.Answers.{answer}
+use Rattle.manager.specs.Kinds.{Kind}
 use Rattle.manager.specs.declared.refusal.Refusal.{Refusal}
 use Rattle.history.specs.Calls.{Call, refusal}
 use Rattle.history.specs.Histories.{Performed}
-use Rattle.history.specs.Records.{Kind, under}
+use Rattle.history.specs.Records.{under}
 use Rattle.history.specs.declared.Grant.{Grant}
 use Rattle.broker.specs.Reading.{records-of}
 use Rattle.broker.specs.declared.state.Broker.{Broker}

@@ -7,20 +7,16 @@ use native.Mathlib.Omega.{arith}
 use native.Mathlib.Nat.{mul-zero, mul-one}
 use Rattle.std.specs.declared.option.Option.{Option}
 use Rattle.std.specs.declared.option.Option.the-variants.{Some, None}
-use Rattle.manager.specs.Laws.{Laws}
+use Rattle.manager.specs.Kinds.{Kind, Obeys}
 use Rattle.manager.specs.Refusals.{due, refused, ask-order, step-order}
 use Rattle.manager.specs.declared.refusal.Refusal.{Refusal}
 use Rattle.manager.specs.declared.refusal.Refusal.the-variants.{RollFull, LimitReached}
 use Rattle.history.specs.Calls.{Call, Done, done, _and_, Does, Drained, step-refusal, drain-refusal}
 use Rattle.history.specs.Calls.Drained.{finished, stopped, carried}
 use Rattle.history.specs.Calls.Does.{is-refused, asks, frees, steps, drains, writes-waits, answers}
-use Rattle.history.specs.Records.{Kind, Records, Well, under, after-step}
+use Rattle.history.specs.Records.{Records, Well, under, after-step}
 use Rattle.history.specs.declared.Grant.{Grant}
 use Rattle.history.proofs.Orders.{tried-front, not-due}
-
--- The laws that a kind of manager owes.
-abbrev pub Obeys : {S : Type 0} → Kind S → Type 0
-Obeys kind = Laws (kind .meaning) (kind .sound) (kind .parks) (kind .asks) (kind .frees) (kind .steps)
 
 -- A broker that has gone from b to c by carrying out e.
 pub record Moved {S : Type 0} (kind : Kind S) (b : Records S) (e : Done) (c : Records S) : Type 0 where

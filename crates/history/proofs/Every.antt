@@ -14,6 +14,7 @@ use Rattle.std.proofs.shelf.Tests.{cases-lt, cases-eq, leb-false}
 use lib.Dec.{leb}
 use Rattle.manager.specs.Answers.{answer, first, status-shown, holder-shown}
 use Rattle.manager.specs.Effects.{Parked}
+use Rattle.manager.specs.Kinds.{Kind, Obeys}
 use Rattle.manager.specs.Laws.{Lawful}
 use Rattle.manager.specs.Meaning.{Meaning, is-holding}
 use Rattle.manager.specs.Refusals.{refused, site-order}
@@ -25,9 +26,9 @@ use Rattle.history.specs.Calls.{Call, Done, done, _and_, Does}
 use Rattle.history.specs.Histories.{History, Performed, Continues, GoesOn}
 use Rattle.history.specs.Histories.History.{begin, then}
 use Rattle.history.specs.Promise.{Kept, EveryHistory, Begun}
-use Rattle.history.specs.Records.{Kind, Records, Well, started, under}
+use Rattle.history.specs.Records.{Records, Well, started, under}
 use Rattle.history.specs.declared.Grant.{Grant}
-use Rattle.history.proofs.Along.{Obeys, Moved, moves}
+use Rattle.history.proofs.Along.{Moved, moves}
 
 -- What is shown of a site's status is its status, and the site is one.
 pub shown-status : (m : Meaning) (i : ℕ) (st : Status) → status-shown m i ≡ Ok st → (i < m .sites) × (m .status i ≡ st)

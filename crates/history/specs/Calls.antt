@@ -6,11 +6,12 @@ use Prim.Native.Nat.{ℕ, suc, _+_, _-_, _<_}
 use lib.ListN.{length}
 use Rattle.std.specs.declared.option.Option.{Option}
 use Rattle.std.specs.declared.option.Option.the-variants.{Some, None}
+use Rattle.manager.specs.Kinds.{Kind}
 use Rattle.manager.specs.Meaning.{Meaning}
 use Rattle.manager.specs.Refusals.{due, tried, refused, site-order, ask-order, free-order, step-order}
 use Rattle.manager.specs.declared.refusal.Refusal.{Refusal}
 use Rattle.manager.specs.declared.refusal.Refusal.the-variants.{RollFull, ShortWaitList, LimitReached}
-use Rattle.history.specs.Records.{Kind, Records, under, after-ask, after-free, after-step, grants-by-ask, grants-by-step}
+use Rattle.history.specs.Records.{Records, under, after-ask, after-free, after-step, grants-by-ask, grants-by-step}
 use Rattle.history.specs.declared.Grant.{Grant}
 
 -- A call, with the site or thing that it names and the room that the caller lends: free places in the grant roll, or

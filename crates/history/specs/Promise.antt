@@ -4,10 +4,11 @@ use Prim.Native.Nat.{ℕ, _+_, _*_, _≤_, _<_}
 use Rattle.std.specs.declared.option.Option.the-variants.{None}
 use Rattle.std.specs.declared.result.Result.the-variants.{Ok}
 use Rattle.manager.specs.Answers.{status-shown, holder-shown}
+use Rattle.manager.specs.Kinds.{Kind}
 use Rattle.manager.specs.declared.status.Status.the-variants.{Waiting, Holding}
 use Rattle.history.specs.Calls.{Done}
 use Rattle.history.specs.Histories.{History}
-use Rattle.history.specs.Records.{Kind, Records, Well, started, under}
+use Rattle.history.specs.Records.{Records, Well, started, under}
 
 module _ {S : Type 0} (kind : Kind S) where
   -- After the calls of a history that began at a and has come to b.

@@ -8,16 +8,11 @@ use Rattle.std.specs.declared.option.Option.the-variants.{Some, None}
 use Rattle.std.specs.declared.result.Result.{Result}
 use Rattle.counting.specs.Sums.{upd}
 use Rattle.manager.specs.Answers.{answer}
+use Rattle.manager.specs.Kinds.{Kind}
 use Rattle.manager.specs.Meaning.{Meaning, is-waiting, is-holding}
 use Rattle.manager.specs.Refusals.{refused, site-order}
-use Rattle.manager.specs.declared.interface.Manager.{Ghosts}
 use Rattle.manager.specs.declared.refusal.Refusal.{Refusal}
 use Rattle.history.specs.declared.Grant.{Grant}
-
--- A kind of manager, with states S, is the ghost members of the interface: what a state means, when it is sound, and what
--- each carried-out call does to it.
-abbrev pub Kind : Type 0 → Type 1
-Kind S = Ghosts S
 
 -- A broker keeps a manager, the totals of the asks, frees and steps carried out since it was started, and for each site
 -- the total of steps when it last asked.

@@ -1,9 +1,10 @@
 -- What parking the three parts and setting the gateways comes to: the tie is parked.
 use mathlib.Core.Path.{_≡_, subst}
 use Prim.Native.Nat.{ℕ, _-_}
+use Rattle.manager.specs.Kinds.{Kind}
 use Rattle.tie_rules.specs.Reading.{last, border}
 use Rattle.tie_rules.specs.Rules.{Parks, parks-left, parks-right}
-use Rattle.tie_rules.specs.State.{Kind, Tie}
+use Rattle.tie_rules.specs.State.{Tie}
 use Rattle.tie_rules.specs.declared.Gateway.the-variants.{Out, In}
 use Rattle.tie.specs.Places.{PlacedAt}
 use Rattle.tie.specs.declared.state.Place.the-variants.{Left, Right}

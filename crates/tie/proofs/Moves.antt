@@ -6,10 +6,10 @@ use Rattle.std.specs.declared.option.Option.{Option}
 use Rattle.std.specs.declared.option.Option.the-variants.{None}
 use Rattle.std.specs.declared.result.Result.{Result}
 use Rattle.std.specs.declared.result.Result.the-variants.{Ok}
+use Rattle.manager.specs.Kinds.{Kind}
 use Rattle.manager.specs.declared.refusal.Refusal.{Refusal}
 use Rattle.tie_rules.specs.Rules.{Passes, asks-outer, frees-island, asks-island, frees-outer}
 use Rattle.tie_rules.specs.Sides.{due}
-use Rattle.tie_rules.specs.State.{Kind}
 use Rattle.tie_rules.specs.declared.Gateway.{Gateway}
 use Rattle.tie_rules.specs.declared.Gateway.the-variants.{Out, Coming, In, Leaving}
 use Rattle.tie_rules.proofs.Acting.{part-side}

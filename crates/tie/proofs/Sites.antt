@@ -7,6 +7,7 @@ use Rattle.std.specs.declared.option.Option.{Option}
 use Rattle.std.specs.declared.option.Option.the-variants.{None}
 use Rattle.std.specs.declared.result.Result.{Result}
 use Rattle.manager.specs.Answers.{answer, Call}
+use Rattle.manager.specs.Kinds.{Kind, Obeys}
 use Rattle.manager.specs.Meaning.{Meaning, limit}
 use Rattle.manager.specs.Refusals.{refused, ask-order, free-order}
 use Rattle.manager.specs.declared.refusal.Refusal.{Refusal}
@@ -14,8 +15,7 @@ use Rattle.manager.specs.declared.status.Status.{Status}
 use Rattle.tie_rules.specs.Invariant.{Sound}
 use Rattle.tie_rules.specs.Reading.{border, meaning-of}
 use Rattle.tie_rules.specs.Rules.{AtSite, at-left, at-right, Asks, Frees}
-use Rattle.tie_rules.specs.State.{Kind, Tie, next}
-use Rattle.tie_rules.proofs.Acting.{Obeys}
+use Rattle.tie_rules.specs.State.{Tie, next}
 use Rattle.tie_rules.proofs.Questions.{status-left, status-right}
 use Rattle.tie_rules.proofs.Refused.{ask-refused-left, ask-refused-right, free-refused-left, free-refused-right}
 use Rattle.tie.specs.Places.{PlacedAt}

@@ -9,15 +9,15 @@ use Rattle.std.specs.declared.result.Result.{Result}
 use Rattle.std.specs.declared.result.Result.the-variants.{Ok}
 use Rattle.std.proofs.shelf.Ways.{tells}
 use Rattle.manager.specs.Effects.{Granted}
+use Rattle.manager.specs.Kinds.{Kind, Obeys}
 use Rattle.manager.specs.Meaning.{Meaning, limit}
 use Rattle.manager.specs.Refusals.{refused, step-order}
 use Rattle.manager.specs.declared.refusal.Refusal.{Refusal}
 use Rattle.tie_rules.specs.Invariant.{Sound}
 use Rattle.tie_rules.specs.Reading.{last, border, lifted}
 use Rattle.tie_rules.specs.Rules.{Steps, left-steps, right-steps, outer-steps, left-moves, right-moves}
-use Rattle.tie_rules.specs.State.{Kind, Tie, next}
+use Rattle.tie_rules.specs.State.{Tie, next}
 use Rattle.tie_rules.specs.declared.Gateway.{Gateway}
-use Rattle.tie_rules.proofs.Acting.{Obeys}
 use Rattle.tie_rules.proofs.Refused.{left-step-accepted, right-step-accepted, outer-step-accepted, left-move-accepted, right-move-accepted}
 use Rattle.tie.specs.Moving.{Moved}
 use Rattle.tie.specs.Places.{own}

@@ -5,10 +5,10 @@ use Rattle.std.specs.declared.option.Option.{Option}
 use Rattle.std.specs.declared.option.Option.the-variants.{None}
 use Rattle.std.specs.declared.result.Result.{Result}
 use Rattle.std.specs.declared.result.Result.the-variants.{Ok}
+use Rattle.manager.specs.Kinds.{Kind}
 use Rattle.manager.specs.Refusals.{refused, ask-order, free-order}
 use Rattle.manager.specs.declared.refusal.Refusal.{Refusal}
 use Rattle.tie_rules.specs.Reading.{last}
-use Rattle.tie_rules.specs.State.{Kind}
 use Rattle.tie_rules.specs.declared.Gateway.{Gateway}
 use Rattle.tie_rules.specs.declared.Gateway.the-variants.{Out, Coming, In, Leaving}
 

@@ -2,10 +2,11 @@
 use mathlib.Core.Path.{_≡_}
 use mathlib.Core.Bool.{true}
 use Prim.Native.Nat.{ℕ, _+_, _<_}
+use Rattle.manager.specs.Kinds.{Kind}
 use Rattle.tie_rules.specs.Reading.{left-side, right-side}
 use Rattle.tie_rules.specs.Rules.{before-right, before-outer, before-left-move, before-right-move}
 use Rattle.tie_rules.specs.Sides.{due}
-use Rattle.tie_rules.specs.State.{Kind, Tie}
+use Rattle.tie_rules.specs.State.{Tie}
 use Rattle.tie.specs.declared.state.Thing.{Thing}
 use Rattle.tie.specs.declared.state.Thing.the-variants.{Left, Right, Outer, LeftMove, RightMove}
 

@@ -5,13 +5,12 @@ use native.Mathlib.Omega.{arith}
 use Rattle.std.specs.declared.option.Option.{Option}
 use Rattle.std.specs.declared.option.Option.the-variants.{None}
 use Rattle.manager.specs.Effects.{Asked, Freed, Stepped}
-use Rattle.manager.specs.Laws.{Laws}
+use Rattle.manager.specs.Kinds.{Kind, Obeys}
 use Rattle.manager.specs.Meaning.{Meaning, limit}
 use Rattle.manager.specs.declared.status.Status.the-variants.{Idle, Holding}
 use Rattle.tie_rules.specs.Reading.{last, lifted}
 use Rattle.tie_rules.specs.Rules.{Passes, asks-outer, frees-island, asks-island, frees-outer}
 use Rattle.tie_rules.specs.Sides.{Side, at}
-use Rattle.tie_rules.specs.State.{Kind}
 use Rattle.tie_rules.specs.declared.Gateway.{Gateway}
 use Rattle.tie_rules.specs.declared.Gateway.the-variants.{Out, Coming, In, Leaving}
 use Rattle.tie_rules.proofs.Accepted.{ask-accepted, free-accepted, step-accepted}
@@ -19,10 +18,6 @@ use Rattle.tie_rules.proofs.Calls.{ask-linked, ask-shown, free-linked, free-sh
 use Rattle.tie_rules.proofs.Linked.{Linked}
 use Rattle.tie_rules.proofs.Passing.{Accepts, moves-accepted, asking-linked, asking-shown, arriving-linked, arriving-shown, recalling-linked, recalling-shown, leaving-linked, leaving-shown}
 use Rattle.tie_rules.proofs.Views.{On, Views}
-
--- The laws that a kind of manager owes.
-abbrev pub Obeys : {S : Type 0} → Kind S → Type 0
-Obeys kind = Laws (kind .meaning) (kind .sound) (kind .parks) (kind .asks) (kind .frees) (kind .steps)
 
 -- An island and its gateway as a side.
 abbrev pub part-side : {I : Type 0} → Kind I → I → Gateway → (post offset : ℕ) → Side

@@ -5,6 +5,7 @@ use native.Mathlib.Omega.{arith}
 use Rattle.std.specs.declared.option.Option.{Option}
 use Rattle.std.specs.declared.option.Option.the-variants.{None}
 use Rattle.manager.specs.Effects.{Parked, Asked, Freed, Stepped}
+use Rattle.manager.specs.Kinds.{Kind, Obeys}
 use Rattle.manager.specs.Laws.{Laws, Lawful}
 use Rattle.manager.specs.Meaning.{Meaning, limit}
 use Rattle.manager.specs.Refusals.{refused, site-order, ask-order, free-order, step-order}
@@ -14,11 +15,11 @@ use Rattle.tie_rules.specs.Invariant.{Sound}
 use Rattle.tie_rules.specs.Reading.{border, left-side, right-side, lifted, meaning-of}
 use Rattle.tie_rules.specs.Rules.{AtSite, at-left, at-right, Asks, Frees, Parks, parks-left, parks-right, Steps, left-steps, right-steps, outer-steps, left-moves, right-moves}
 use Rattle.tie_rules.specs.Sides.{Side, at}
-use Rattle.tie_rules.specs.State.{Kind, Tie, next}
+use Rattle.tie_rules.specs.State.{Tie, next}
 use Rattle.tie_rules.specs.declared.Gateway.{Gateway}
 use Rattle.tie_rules.specs.declared.Gateway.the-variants.{Out, In}
 use Rattle.tie_rules.proofs.Accepted.{accepted-site, accepted-ask, accepted-free, accepted-step}
-use Rattle.tie_rules.proofs.Acting.{Obeys, Acted, Ready, ask-acts, free-acts, step-acts, outer-step-acts, pass-acts}
+use Rattle.tie_rules.proofs.Acting.{Acted, Ready, ask-acts, free-acts, step-acts, outer-step-acts, pass-acts}
 use Rattle.tie_rules.proofs.Lawful.{linked-lawful}
 use Rattle.tie_rules.proofs.Linked.{Linked, linked-turned}
 use Rattle.tie_rules.proofs.Parking.{park-acts}

@@ -3,13 +3,13 @@ use mathlib.Core.Path.{_≡_}
 use Prim.Native.Nat.{ℕ, _+_, _<_}
 use native.Mathlib.Omega.{arith}
 use Rattle.manager.specs.Effects.{Parked}
+use Rattle.manager.specs.Kinds.{Kind, Obeys}
 use Rattle.manager.specs.Meaning.{Meaning}
 use Rattle.tie_rules.specs.Sides.{Side, at}
-use Rattle.tie_rules.specs.State.{Kind}
 use Rattle.tie_rules.specs.declared.Gateway.{Gateway}
 use Rattle.tie_rules.specs.declared.Gateway.the-variants.{Out, In}
 use Rattle.tie_rules.proofs.Accepted.{site-accepted}
-use Rattle.tie_rules.proofs.Acting.{Obeys, part-side}
+use Rattle.tie_rules.proofs.Acting.{part-side}
 use Rattle.tie_rules.proofs.Linked.{Linked}
 use Rattle.tie_rules.proofs.Park.{park-linked, park-shown}
 use Rattle.tie_rules.proofs.Views.{On, Views}

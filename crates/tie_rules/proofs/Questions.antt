@@ -11,12 +11,13 @@ use Rattle.std.specs.declared.result.Result.the-variants.{Ok}
 use Rattle.std.proofs.shelf.Tests.{cases-eq, cases-lt, cond-true, cond-false, cond-both, and-parts, and-cases, ltb-true, ltb-false, lt-ltb, le-ltb}
 use Rattle.counting.specs.Sums.{one-if}
 use Rattle.manager.specs.Answers.{answer, status-shown, called-shown, holder-shown, toll-shown}
+use Rattle.manager.specs.Kinds.{Kind}
 use Rattle.manager.specs.Meaning.{Meaning, limit, is-holding}
 use Rattle.manager.specs.declared.refusal.Refusal.{Refusal}
 use Rattle.tie_rules.specs.Reading.{last, border, left-side, right-side, meaning-of}
 use Rattle.tie_rules.specs.Rules.{before-left-move, before-right-move}
 use Rattle.tie_rules.specs.Sides.{due}
-use Rattle.tie_rules.specs.State.{Kind, Tie}
+use Rattle.tie_rules.specs.State.{Tie}
 use Rattle.tie_rules.proofs.Accepted.{site-accepted}
 use Rattle.tie_rules.proofs.First.{Finds, first-finds, finds-first}
 

@@ -3,13 +3,13 @@ use mathlib.Core.Path.{_≡_}
 use Prim.Native.Nat.{ℕ, _-_, _≤_, _<_}
 use native.Mathlib.Omega.{arith}
 use Rattle.std.specs.declared.option.Option.the-variants.{None}
+use Rattle.manager.specs.Kinds.{Kind, Obeys}
 use Rattle.manager.specs.Meaning.{Meaning, limit}
 use Rattle.manager.specs.Refusals.{refused, ask-order, free-order, step-order}
 use Rattle.tie_rules.specs.Invariant.{Sound}
 use Rattle.tie_rules.specs.Reading.{border, left-side, right-side, meaning-of}
-use Rattle.tie_rules.specs.State.{Kind, Tie}
+use Rattle.tie_rules.specs.State.{Tie}
 use Rattle.tie_rules.proofs.Accepted.{step-accepted, ask-refused-alike, free-refused-alike}
-use Rattle.tie_rules.proofs.Acting.{Obeys}
 use Rattle.tie_rules.proofs.Passing.{Accepts, moves-accepted}
 use Rattle.tie_rules.proofs.Questions.{status-left, status-right}
 use Rattle.tie_rules.proofs.Whole.{sound-linked}

@@ -2,14 +2,15 @@
 use mathlib.Core.Path.{_≡_, refl, sym, ap, ap₂, subst}
 use Prim.Native.Nat.{ℕ, _+_, _-_, _≤_, _<_}
 use native.Mathlib.Omega.{arith}
+use Rattle.manager.specs.Kinds.{Kind, Obeys}
 use Rattle.manager.specs.Laws.{Bounded}
 use Rattle.manager.specs.Meaning.{Meaning, limit}
 use Rattle.tie_rules.specs.Invariant.{Stands, Unreached, Sound}
 use Rattle.tie_rules.specs.Reading.{joined, border, left-side, right-side, meaning-of}
 use Rattle.tie_rules.specs.Sides.{Side, at}
-use Rattle.tie_rules.specs.State.{Kind, Tie, next}
+use Rattle.tie_rules.specs.State.{Tie, next}
 use Rattle.tie_rules.specs.declared.Gateway.{Gateway}
-use Rattle.tie_rules.proofs.Acting.{Obeys, Acted}
+use Rattle.tie_rules.proofs.Acting.{Acted}
 use Rattle.tie_rules.proofs.Linked.{Linked, linked-turned}
 use Rattle.tie_rules.proofs.Views.{On, Views, views-turned, joined-views}
 

@@ -3,11 +3,12 @@ use mathlib.Core.Path.{_≡_}
 use mathlib.Core.Bool.{true}
 use mathlib.Core.Logic.{_⊎_}
 use Prim.Native.Nat.{ℕ, _+_, _≤_, _<_}
+use Rattle.manager.specs.Kinds.{Kind}
 use Rattle.manager.specs.Meaning.{Meaning}
 use Rattle.manager.specs.declared.status.Status.the-variants.{Idle, Waiting, Holding}
 use Rattle.tie_rules.specs.Reading.{left-side, right-side}
 use Rattle.tie_rules.specs.Sides.{Side}
-use Rattle.tie_rules.specs.State.{Kind, Tie}
+use Rattle.tie_rules.specs.State.{Tie}
 use Rattle.tie_rules.specs.declared.Gateway.{Gateway}
 use Rattle.tie_rules.specs.declared.Gateway.the-variants.{Out, Coming, In, Leaving}
 

@@ -5,9 +5,10 @@ use lib.Dec.{eqb, ltb}
 use Rattle.std.specs.declared.option.Option.{Option}
 use Rattle.std.specs.declared.option.Option.the-variants.{Some, None}
 use Rattle.counting.specs.Sums.{one-if}
+use Rattle.manager.specs.Kinds.{Kind}
 use Rattle.manager.specs.Meaning.{Meaning, limit}
 use Rattle.tie_rules.specs.Sides.{Side, due, moves, barred-on}
-use Rattle.tie_rules.specs.State.{Kind, Tie}
+use Rattle.tie_rules.specs.State.{Tie}
 
 -- An island's last site is its gateway.
 abbrev pub last : Meaning → ℕ

@@ -5,10 +5,11 @@ use Prim.Native.Nat.{ℕ, _+_, _-_, _≤_, _<_}
 use Rattle.std.specs.declared.option.Option.{Option}
 use Rattle.std.specs.declared.option.Option.the-variants.{None}
 use Rattle.counting.specs.Sums.{one-if}
+use Rattle.manager.specs.Kinds.{Kind}
 use Rattle.manager.specs.declared.status.Status.the-variants.{Holding}
 use Rattle.tie_rules.specs.Reading.{last, border, left-side, lifted}
 use Rattle.tie_rules.specs.Sides.{due}
-use Rattle.tie_rules.specs.State.{Kind, Tie, next}
+use Rattle.tie_rules.specs.State.{Tie, next}
 use Rattle.tie_rules.specs.declared.Gateway.{Gateway}
 use Rattle.tie_rules.specs.declared.Gateway.the-variants.{Out, Coming, In, Leaving}
 
