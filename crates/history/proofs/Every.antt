@@ -2,22 +2,22 @@
 use mathlib.Core.Path.{_≡_, refl, sym, ap, subst, _∙_}
 use mathlib.Core.List.{List}
 use mathlib.Core.Bool.{Bool, true, false, cond}
-use mathlib.Core.Logic.{_⊎_, inl, inr}
-use Prim.Native.Nat.{ℕ, zero, suc, _+_, _*_, _≤_, _<_}
+use Prim.Native.Nat.{ℕ, _+_, _*_, _≤_, _<_}
 use native.Mathlib.Omega.{arith}
 use native.Mathlib.Nat.{mul-one, mul-add}
 use Rattle.std.specs.declared.option.Option.{Option}
 use Rattle.std.specs.declared.option.Option.the-variants.{Some, None}
 use Rattle.std.specs.declared.result.Result.{Result}
 use Rattle.std.specs.declared.result.Result.the-variants.{Ok, Err}
-use Rattle.std.proofs.shelf.Tests.{cases-lt, cases-eq, leb-false}
+use Rattle.std.proofs.shelf.Tests.{leb-false}
 use lib.Dec.{leb}
-use Rattle.manager.specs.Answers.{answer, first, status-shown, holder-shown}
+use Rattle.manager.specs.Answers.{answer, status-shown, holder-shown}
 use Rattle.manager.specs.Effects.{Parked}
 use Rattle.manager.specs.Kinds.{Kind, Obeys}
 use Rattle.manager.specs.Laws.{Lawful}
 use Rattle.manager.specs.Meaning.{Meaning, is-holding}
 use Rattle.manager.specs.Refusals.{refused, site-order}
+use Rattle.manager.proofs.First.{Finds, first-finds}
 use Rattle.manager.specs.declared.refusal.Refusal.{Refusal}
 use Rattle.manager.specs.declared.refusal.Refusal.the-variants.{NoSite}
 use Rattle.manager.specs.declared.status.Status.{Status}
@@ -38,16 +38,15 @@ shown-status m i st e = go (leb (m .sites) i) refl e
     go true p e = absurd (let z : _≡_ {A = ℕ} 0 1 = cc in omega arith)
     go false p e = (leb-false (m .sites) i p, cc)
 
--- Where the first number that passes is none, no number passes.
-pub first-none : (test : ℕ → Bool) (n i : ℕ) → first test n ≡ None → i < n → test i ≡ false
-first-none test zero i e h = absurd (omega arith)
-first-none test (suc n) i e h = go (first test n) (test n) refl refl e (cases-eq i n) (λ p b. first-none test n i p b)
-  where
-    go : (o : Option ℕ) (b : Bool) → first test n ≡ o → test n ≡ b → _≡_ {A = Option ℕ} (elim o [ Some k ↦ Some k | None ↦ cond b (Some n) None ]) None → (i ≡ n) ⊎ (i ≡ n → ⊥) → (first test n ≡ None → i < n → test i ≡ false) → test i ≡ false
-    go (Some k) b p q e c before = absurd (let z : _≡_ {A = ℕ} 0 1 = cc in omega arith)
-    go None true p q e c before = absurd (let z : _≡_ {A = ℕ} 0 1 = cc in omega arith)
-    go None false p q e (inl same) before = ap test same ∙ q
-    go None false p q e (inr other) before = before p (omega arith)
+positive : (n : ℕ) → (n ≡ 0 → ⊥) → 0 < n
+positive n some = omega arith
+
+-- Where no site is shown holding, none holds.
+nobody : (m : Meaning) (i : ℕ) → holder-shown m ≡ None → i < m .sites → m .status i ≡ Holding → ⊥
+nobody m i none within holds =
+    let test : ℕ → Bool = λ k. is-holding (m .status k) in
+    let free : test i ≡ false = subst (λ (o : Option ℕ). Finds test (m .sites) o) none (first-finds test (m .sites)) i within in
+    let z : _≡_ {A = ℕ} 0 1 = cc (ap is-holding holds) in omega arith
 
 module _ {S : Type 0} (kind : Kind S) (laws : Obeys kind) (a : Records S) where
   -- What the induction carries along.
@@ -84,20 +83,12 @@ module _ {S : Type 0} (kind : Kind S) (laws : Obeys kind) (a : Records S) where
       let law = laws .lawful (b .manager) (h .well .sound) in
       record {
         exclusive = λ i j p q. let x = shown-status (under kind b) i Holding p in let y = shown-status (under kind b) j Holding q in law .exclusive i j (x .0) (y .0) (x .1) (y .1);
-        served = λ i p none. ⊎-pos (under kind b .underway) (λ quiet. let x = shown-status (under kind b) i Waiting p in let s = law .served i (x .0) (x .1) quiet in nobody (under kind b) (s .0) none (s .1) (s .2));
+        served = λ i p none. positive (under kind b .underway) (λ quiet. let x = shown-status (under kind b) i Waiting p in let s = law .served i (x .0) (x .1) quiet in nobody (under kind b) (s .0) none (s .1) (s .2));
         few-steps = omega (arith, h .bound);
         asks-total = h .asks-total;
         frees-total = h .frees-total;
         steps-total = h .steps-total;
       }
-    where
-      ⊎-pos : (n : ℕ) → (n ≡ 0 → ⊥) → 0 < n
-      ⊎-pos n ne = omega arith
-
-      nobody : (m : Meaning) (i : ℕ) → holder-shown m ≡ None → i < m .sites → m .status i ≡ Holding → ⊥
-      nobody m i none within holds =
-          let free = first-none (λ k. is-holding (m .status k)) (m .sites) i none within in
-          let z : _≡_ {A = ℕ} 0 1 = cc (ap is-holding holds) in omega arith
 
   -- A broker that is well, with its totals at 0 and no more work than its toll, as parking leaves it.
   pub every-history : Well kind a → a .asks ≡ 0 → a .frees ≡ 0 → a .steps ≡ 0 → under kind a .work ≤ under kind a .toll → EveryHistory kind a

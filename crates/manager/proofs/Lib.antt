@@ -1,3 +1,4 @@
 pub mod Accepted
+pub mod First
 pub mod Seeking
 pub mod Statuses

@@ -1,14 +1,9 @@
 -- What the tests of a status say of it.
 use mathlib.Core.Path.{_≡_, refl}
 use mathlib.Core.Bool.{true}
-use Rattle.manager.specs.Meaning.{is-idle, is-holding}
+use Rattle.manager.specs.Meaning.{is-holding}
 use Rattle.manager.specs.declared.status.Status.{Status}
 use Rattle.manager.specs.declared.status.Status.the-variants.{Idle, Waiting, Holding}
-
-pub idles-of : (x : Status) → is-idle x ≡ true → x ≡ Idle
-idles-of Idle e = refl
-idles-of Waiting e = cc
-idles-of Holding e = cc
 
 pub holds-of : (x : Status) → is-holding x ≡ true → x ≡ Holding
 holds-of Idle e = cc

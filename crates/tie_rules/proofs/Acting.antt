@@ -13,7 +13,7 @@ use Rattle.tie_rules.specs.Rules.{Passes, asks-outer, frees-island, asks-islan
 use Rattle.tie_rules.specs.Sides.{Side, at}
 use Rattle.tie_rules.specs.declared.Gateway.{Gateway}
 use Rattle.tie_rules.specs.declared.Gateway.the-variants.{Out, Coming, In, Leaving}
-use Rattle.tie_rules.proofs.Accepted.{ask-accepted, free-accepted, step-accepted}
+use Rattle.manager.proofs.Accepted.{ask-accepted, free-accepted, step-accepted}
 use Rattle.tie_rules.proofs.Calls.{ask-linked, ask-shown, free-linked, free-shown, step-linked, step-shown, outer-step-linked, outer-step-shown}
 use Rattle.tie_rules.proofs.Linked.{Linked}
 use Rattle.tie_rules.proofs.Passing.{Accepts, moves-accepted, asking-linked, asking-shown, arriving-linked, arriving-shown, recalling-linked, recalling-shown, leaving-linked, leaving-shown}

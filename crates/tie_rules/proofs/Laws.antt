@@ -18,7 +18,7 @@ use Rattle.tie_rules.specs.Sides.{Side, at}
 use Rattle.tie_rules.specs.State.{Tie, next}
 use Rattle.tie_rules.specs.declared.Gateway.{Gateway}
 use Rattle.tie_rules.specs.declared.Gateway.the-variants.{Out, In}
-use Rattle.tie_rules.proofs.Accepted.{accepted-site, accepted-ask, accepted-free, accepted-step}
+use Rattle.manager.proofs.Accepted.{accepted-site, accepted-ask, accepted-free, accepted-step}
 use Rattle.tie_rules.proofs.Acting.{Acted, Ready, ask-acts, free-acts, step-acts, outer-step-acts, pass-acts}
 use Rattle.tie_rules.proofs.Lawful.{linked-lawful}
 use Rattle.tie_rules.proofs.Linked.{Linked, linked-turned}

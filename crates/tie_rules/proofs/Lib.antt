@@ -1,8 +1,6 @@
-pub mod Accepted
 pub mod Acting
 pub mod Barred
 pub mod Calls
-pub mod First
 pub mod Kept
 pub mod Lawful
 pub mod Laws

@@ -13,7 +13,7 @@ use Rattle.manager.specs.declared.status.Status.the-variants.{Holding}
 use Rattle.tie_rules.specs.Sides.{Side, at, inside, settled, weigh, moves}
 use Rattle.tie_rules.specs.declared.Gateway.{Gateway}
 use Rattle.tie_rules.specs.declared.Gateway.the-variants.{Out, Coming, In, Leaving}
-use Rattle.tie_rules.proofs.First.{first-found, first-some}
+use Rattle.manager.proofs.First.{first-found, first-some}
 use Rattle.tie_rules.proofs.Linked.{Sided, Linked, holds-of, inside-holds, gateway-alone, outer-alone, inside-once}
 
 -- One of the island's sites below the gateway holds.

@@ -8,7 +8,7 @@ use Rattle.manager.specs.Meaning.{Meaning}
 use Rattle.tie_rules.specs.Sides.{Side, at}
 use Rattle.tie_rules.specs.declared.Gateway.{Gateway}
 use Rattle.tie_rules.specs.declared.Gateway.the-variants.{Out, In}
-use Rattle.tie_rules.proofs.Accepted.{site-accepted}
+use Rattle.manager.proofs.Accepted.{site-accepted}
 use Rattle.tie_rules.proofs.Acting.{part-side}
 use Rattle.tie_rules.proofs.Linked.{Linked}
 use Rattle.tie_rules.proofs.Park.{park-linked, park-shown}

@@ -13,7 +13,7 @@ use Rattle.tie_rules.specs.Invariant.{StandsAt}
 use Rattle.tie_rules.specs.Sides.{Side, at, inside}
 use Rattle.tie_rules.specs.declared.Gateway.{Gateway}
 use Rattle.tie_rules.specs.declared.Gateway.the-variants.{Out, Coming, In, Leaving}
-use Rattle.tie_rules.proofs.Accepted.{ask-accepted, free-accepted}
+use Rattle.manager.proofs.Accepted.{ask-accepted, free-accepted}
 use Rattle.tie_rules.proofs.Kept.{island-here, island-there, outer-here, arrives-here, arrives-there, leaves-here, leaves-there}
 use Rattle.tie_rules.proofs.Linked.{Sided, Linked, linked-turned}
 use Rattle.tie_rules.proofs.Moves.{settled-lasts, asking-moves, arriving-moves, recalling-moves, leaving-moves}

@@ -18,8 +18,8 @@ use Rattle.tie_rules.specs.Reading.{last, border, left-side, right-side, meani
 use Rattle.tie_rules.specs.Rules.{before-left-move, before-right-move}
 use Rattle.tie_rules.specs.Sides.{due}
 use Rattle.tie_rules.specs.State.{Tie}
-use Rattle.tie_rules.proofs.Accepted.{site-accepted}
-use Rattle.tie_rules.proofs.First.{Finds, first-finds, finds-first}
+use Rattle.manager.proofs.Accepted.{site-accepted}
+use Rattle.manager.proofs.First.{Finds, first-finds, finds-first}
 
 module _ (m : Meaning) (i : ℕ) (l : i < m .sites) where
   -- A question that names a site is answered.

@@ -9,7 +9,7 @@ use Rattle.manager.specs.Refusals.{refused, ask-order, free-order, step-order}
 use Rattle.tie_rules.specs.Invariant.{Sound}
 use Rattle.tie_rules.specs.Reading.{border, left-side, right-side, meaning-of}
 use Rattle.tie_rules.specs.State.{Tie}
-use Rattle.tie_rules.proofs.Accepted.{step-accepted, ask-refused-alike, free-refused-alike}
+use Rattle.manager.proofs.Accepted.{step-accepted, ask-refused-alike, free-refused-alike}
 use Rattle.tie_rules.proofs.Passing.{Accepts, moves-accepted}
 use Rattle.tie_rules.proofs.Questions.{status-left, status-right}
 use Rattle.tie_rules.proofs.Whole.{sound-linked}

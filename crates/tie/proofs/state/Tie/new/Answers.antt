@@ -3,7 +3,7 @@ use Prim.Native.Nat.{ℕ, _-_, _<_}
 use native.Mathlib.Omega.{arith}
 use Rattle.tie_rules.specs.Reading.{meaning-of}
 use Rattle.tie_rules.specs.Rules.{Parks}
-use Rattle.tie_rules.proofs.Accepted.{site-accepted}
+use Rattle.manager.proofs.Accepted.{site-accepted}
 use Rattle.tie_rules.proofs.Laws.{park-lawful}
 use Rattle.tie_rules.proofs.Whole.{bounded}
 use Rattle.tie.specs.Reading.{tie-of, untied}
