@@ -22,7 +22,7 @@ use Rattle.tie_rules.proofs.Refused.{left-step-accepted, right-step-accepted, o
 use Rattle.tie.specs.Moving.{Moved}
 use Rattle.tie.specs.Places.{own}
 use Rattle.tie.specs.Things.{Numbered}
-use Rattle.tie.specs.declared.state.Thing.the-variants.{Left, Right, Outer, LeftMove, RightMove}
+use Rattle.tie.specs.declared.things.Thing.the-variants.{Left, Right, Outer, LeftMove, RightMove}
 use Rattle.tie.proofs.Moves.{passed}
 
 -- A grant names a site, so one that is not the gateway is below it.

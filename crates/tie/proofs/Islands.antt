@@ -19,7 +19,7 @@ use Rattle.tie_rules.proofs.Acting.{Obeys}
 use Rattle.tie_rules.proofs.Questions.{status-left, status-right}
 use Rattle.tie_rules.proofs.Refused.{ask-refused-left, ask-refused-right, free-refused-left, free-refused-right}
 use Rattle.tie.specs.Places.{PlacedAt}
-use Rattle.tie.specs.declared.state.Place.the-variants.{Left, Right}
+use Rattle.tie.specs.declared.sites.Place.the-variants.{Left, Right}
 use Rattle.tie.proofs.Answering.{same-answer}
 
 -- A call of a part, told as a call of the whole.
