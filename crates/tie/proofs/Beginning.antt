@@ -1,6 +1,6 @@
 -- What parking the three parts and setting the gateways comes to: the tie is parked.
 use mathlib.Core.Path.{_≡_, subst}
-use Prim.Native.Nat.{ℕ, _-_}
+use Prim.Native.Nat.{ℕ}
 use Rattle.tie_rules.specs.Reading.{last, border}
 use Rattle.tie_rules.specs.Rules.{Parks, parks-left, parks-right}
 use Rattle.tie_rules.specs.State.{Kind, Tie}

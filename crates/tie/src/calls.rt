@@ -1,5 +1,4 @@
 // The tie as the interface has it: again a manager, whatever its parts are.
-ghost use mathlib.Core.Path.{_≡_};
 ghost use Rattle.tie_rules.specs.Invariant.{Sound};
 ghost use Rattle.tie_rules.specs.Reading.{meaning-of};
 ghost use Rattle.tie_rules.specs.Rules.{Parks, Asks, Frees, Steps};

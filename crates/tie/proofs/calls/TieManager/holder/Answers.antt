@@ -1,4 +1,4 @@
-use mathlib.Core.Path.{_≡_, ap, _∙_}
+use mathlib.Core.Path.{ap, _∙_}
 use Prim.Native.Nat.{ℕ}
 use Rattle.manager.specs.Answers.{holder-shown}
 use Rattle.tie_rules.specs.Reading.{last}
