@@ -10,7 +10,7 @@ use Rattle.std.specs.declared.result.Result.the-variants.{Ok, Err}
 use Rattle.std.proofs.shelf.Ways.{tells}
 use Rattle.manager.specs.Answers.{answer, Call}
 use Rattle.manager.specs.Meaning.{Meaning, limit}
-use Rattle.manager.specs.Refusals.{refused, ask-order, step-order}
+use Rattle.manager.specs.Refusals.{refused, step-order}
 use Rattle.manager.specs.declared.refusal.Refusal.{Refusal}
 use Rattle.manager.specs.declared.refusal.Refusal.the-variants.{NoSite, Worn}
 

@@ -1,13 +1,13 @@
 -- What parking the three parts and setting the gateways comes to: the tie is parked.
 use mathlib.Core.Path.{_≡_, subst}
-use Prim.Native.Nat.{ℕ, _-_}
+use Prim.Native.Nat.{ℕ}
 use Rattle.manager.specs.Kinds.{Kind}
 use Rattle.tie_rules.specs.Reading.{last, border}
 use Rattle.tie_rules.specs.Rules.{Parks, parks-left, parks-right}
 use Rattle.tie_rules.specs.State.{Tie}
 use Rattle.tie_rules.specs.declared.Gateway.the-variants.{Out, In}
 use Rattle.tie.specs.Places.{PlacedAt}
-use Rattle.tie.specs.declared.state.Place.the-variants.{Left, Right}
+use Rattle.tie.specs.declared.sites.Place.the-variants.{Left, Right}
 
 module _ {L R O : Type 0} (kl : Kind L) (kr : Kind R) (ko : Kind O) (t t′ : Tie L R O) (i j : ℕ) where
   pub parked-left : PlacedAt (border kl kr ko t) i (Left j) → kl .parks (t .left) j (t′ .left) → kr .parks (t .right) (last (kr .meaning (t .right))) (t′ .right) → ko .parks (t .outer) 0 (t′ .outer) → t′ .left-gate ≡ In → t′ .right-gate ≡ Out → t′ .age ≡ 0 → Parks kl kr ko t i t′

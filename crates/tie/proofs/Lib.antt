@@ -1,7 +1,7 @@
 pub mod Answering
 pub mod Beginning
 pub mod Holders
+pub mod Islands
 pub mod Moves
-pub mod Sites
 pub mod Steps
 pub mod Stored

@@ -1,7 +1,6 @@
 -- Each of the things under way, carried out in its part, is a step of the tie.
 use mathlib.Core.Path.{_≡_, refl, sym, ap, subst, _∙_}
-use mathlib.Core.Bool.{true}
-use Prim.Native.Nat.{ℕ, _+_, _≤_, _<_}
+use Prim.Native.Nat.{ℕ, _<_}
 use native.Mathlib.Omega.{arith}
 use Rattle.std.specs.declared.option.Option.{Option}
 use Rattle.std.specs.declared.option.Option.the-variants.{Some, None}
@@ -22,7 +21,7 @@ use Rattle.tie_rules.proofs.Refused.{left-step-accepted, right-step-accepted, o
 use Rattle.tie.specs.Moving.{Moved}
 use Rattle.tie.specs.Places.{own}
 use Rattle.tie.specs.Things.{Numbered}
-use Rattle.tie.specs.declared.state.Thing.the-variants.{Left, Right, Outer, LeftMove, RightMove}
+use Rattle.tie.specs.declared.things.Thing.the-variants.{Left, Right, Outer, LeftMove, RightMove}
 use Rattle.tie.proofs.Moves.{passed}
 
 -- A grant names a site, so one that is not the gateway is below it.

@@ -5,8 +5,8 @@ use Prim.Native.Nat.{ℕ, _+_, _-_, _≤_, _<_}
 use lib.Dec.{ltb}
 use Rattle.std.specs.declared.option.Option.{Option}
 use Rattle.std.specs.declared.option.Option.the-variants.{Some, None}
-use Rattle.tie.specs.declared.state.Place.{Place}
-use Rattle.tie.specs.declared.state.Place.the-variants.{Left, Right}
+use Rattle.tie.specs.declared.sites.Place.{Place}
+use Rattle.tie.specs.declared.sites.Place.the-variants.{Left, Right}
 
 -- Site i of a tie with this border is at this place.
 abbrev pub PlacedAt : (border i : ℕ) → Place → Type 0

@@ -7,8 +7,8 @@ use Rattle.tie_rules.specs.Reading.{left-side, right-side}
 use Rattle.tie_rules.specs.Rules.{before-right, before-outer, before-left-move, before-right-move}
 use Rattle.tie_rules.specs.Sides.{due}
 use Rattle.tie_rules.specs.State.{Tie}
-use Rattle.tie.specs.declared.state.Thing.{Thing}
-use Rattle.tie.specs.declared.state.Thing.the-variants.{Left, Right, Outer, LeftMove, RightMove}
+use Rattle.tie.specs.declared.things.Thing.{Thing}
+use Rattle.tie.specs.declared.things.Thing.the-variants.{Left, Right, Outer, LeftMove, RightMove}
 
 module _ {L R O : Type 0} (kl : Kind L) (kr : Kind R) (ko : Kind O) (t : Tie L R O) where
   abbrev pub Numbered : ℕ → Thing → Type 0

@@ -8,7 +8,7 @@ ghost use Rattle.tie_rules.specs.Invariant.{Sound};
 ghost use Rattle.tie_rules.specs.Reading.{meaning-of};
 ghost use Rattle.tie_rules.specs.Rules.{Asks, Frees};
 ghost use Rattle.tie.specs.Reading.{tie-of, older};
-use crate::state::Place;
+use crate::sites::Place;
 use crate::state::Tie;
 use manager::interface::Manager;
 use manager::refusal::Refusal;

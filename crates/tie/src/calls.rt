@@ -1,9 +1,11 @@
 // The tie as the interface has it: again a manager, whatever its parts are.
-ghost use mathlib.Core.Path.{_≡_};
 ghost use Rattle.tie_rules.specs.Invariant.{Sound};
 ghost use Rattle.tie_rules.specs.Reading.{meaning-of};
 ghost use Rattle.tie_rules.specs.Rules.{Parks, Asks, Frees, Steps};
 ghost use Rattle.tie.specs.Reading.{tie-of};
+use crate::sites::Place;
+use crate::sites::own_holder;
+use crate::state::LIMIT;
 use crate::state::Tie;
 use manager::interface::Manager;
 use manager::refusal::Refusal;
@@ -29,23 +31,39 @@ pub impl<L: Manager, R: Manager, O: Manager> Manager for Tie<L, R, O> as TieMana
     }
 
     fn status(&self, site: usize) -> Result<Status, Refusal> {
-        self.status_of(site)
+        self.named(site)?;
+        match self.place(site) {
+            Place::Left(site) => self.left.status(site),
+            Place::Right(site) => self.right.status(site),
+        }
     }
 
     fn called(&self, site: usize) -> Result<bool, Refusal> {
-        self.called_of(site)
+        self.named(site)?;
+        match self.place(site) {
+            Place::Left(site) => self.left.called(site),
+            Place::Right(site) => self.right.called(site),
+        }
     }
 
     fn holder(&self) -> Option<usize> {
-        self.find_holder()
+        match own_holder(&self.left, 0) {
+            Some(site) => Some(site),
+            None => own_holder(&self.right, self.border()),
+        }
     }
 
     fn underway(&self) -> u64 {
         self.count_things()
     }
 
+    // Each move of a gateway costs a call of a part, so it is worth one more than the largest toll of a part.
     fn toll(&self) -> u64 {
-        self.whole_toll()
+        let largest = self.left
+            .toll()
+            .max(self.right.toll())
+            .max(self.outer.toll());
+        LIMIT.min(9 * (largest + 1))
     }
 
     fn park(&mut self, site: usize) -> Result<(), Refusal> {

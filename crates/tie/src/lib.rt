@@ -1,10 +1,11 @@
 // The tie: two islands and an outer manager, each of any kind, that are one manager together.
 mod asking;
 pub mod calls;
+mod gateways;
 mod making;
-mod moving;
 mod parts;
-mod questions;
 mod refusing;
+mod sites;
 pub mod state;
 mod stepping;
+mod things;

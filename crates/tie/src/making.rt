@@ -7,7 +7,7 @@ ghost use Rattle.tie_rules.specs.Rules.{Parks};
 ghost use Rattle.tie_rules.specs.declared.Gateway.the-variants.{Out, In};
 ghost use Rattle.tie.specs.Reading.{tie-of, untied};
 use crate::parts::gateway_of;
-use crate::state::Place;
+use crate::sites::Place;
 use crate::state::Tie;
 use manager::interface::Manager;
 use tie_rules::Gateway;
@@ -26,7 +26,7 @@ impl<L: Manager, R: Manager, O: Manager> Tie<L, R, O> {
             right_gate: Gateway::Out,
             age: 0,
         };
-        let last = tie.count_sites() - 1;
+        let last = tie.last_site();
         tie.begin_at(last);
         tie
     }

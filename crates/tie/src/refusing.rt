@@ -6,12 +6,10 @@ ghost use Rattle.manager.specs.Refusals.{refused, site-order, step-order};
 ghost use Rattle.manager.specs.declared.refusal.Refusal.the-variants.{NoSite, Worn};
 ghost use Rattle.tie_rules.specs.Reading.{meaning-of};
 ghost use Rattle.tie.specs.Reading.{tie-of};
+use crate::state::LIMIT;
 use crate::state::Tie;
 use manager::interface::Manager;
 use manager::refusal::Refusal;
-
-// The age at which a manager is worn out.
-const LIMIT: u64 = 1_000_000_000_000_000;
 
 impl<L: Manager, R: Manager, O: Manager> Tie<L, R, O> {
     pub(crate) fn named(&self, site: usize) -> Result<(), Refusal>

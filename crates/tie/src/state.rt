@@ -4,6 +4,9 @@ ghost use Rattle.manager.specs.Meaning.{limit};
 use manager::interface::Manager;
 use tie_rules::Gateway;
 
+// The age at which a manager is worn out, the most things under way that are counted, and the largest toll that is told.
+pub(crate) const LIMIT: u64 = 1_000_000_000_000_000;
+
 // A tie lets the sites of two islands share one resource. An island is a manager whose last site, its gateway, stands
 // for the rest of the world. The gateways meet at the outer manager, the left one at its site 0, the right one at its
 // site 1. The tie's sites are the left island's, then the right's, without the gateways, 64 at most.
@@ -18,21 +21,4 @@ pub struct Tie<L: Manager, R: Manager, O: Manager> {
     // The asks, frees and steps since parking.
     pub(crate) age: u64,
     ghost young: { age ≤ limit },
-}
-
-// Where a site of the tie is: the island, and its number there.
-#[derive(Clone, Copy)]
-pub(crate) enum Place {
-    Left(usize),
-    Right(usize),
-}
-
-// One of the things under way: one of a part, by its number there, or the due move of a gateway.
-#[derive(Clone, Copy)]
-pub(crate) enum Thing {
-    Left(u64),
-    Right(u64),
-    Outer(u64),
-    LeftMove,
-    RightMove,
 }

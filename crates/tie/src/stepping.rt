@@ -11,12 +11,11 @@ ghost use Rattle.tie_rules.specs.Reading.{last, meaning-of};
 ghost use Rattle.tie_rules.specs.Rules.{Steps};
 ghost use Rattle.tie.specs.Places.{own};
 ghost use Rattle.tie.specs.Reading.{tie-of, older};
-ghost use Rattle.tie.specs.Things.{Numbered};
-use crate::moving::pass;
+use crate::gateways::pass;
 use crate::parts::gateway_of;
-use crate::parts::own_site;
-use crate::state::Thing;
+use crate::sites::own_site;
 use crate::state::Tie;
+use crate::things::Thing;
 use manager::interface::Manager;
 use manager::refusal::Refusal;
 
@@ -33,27 +32,6 @@ impl<L: Manager, R: Manager, O: Manager> Tie<L, R, O> {
             Thing::Outer(k) => step_outer(&mut self.outer, k),
             Thing::LeftMove => pass(&mut self.left_gate, &mut self.left, &mut self.outer, 0),
             Thing::RightMove => pass(&mut self.right_gate, &mut self.right, &mut self.outer, 1),
-        }
-    }
-
-    // Which of the things under way thing k is: those of the left island come first, then the right's, the outer
-    // manager's, the left gateway's due move and the right's.
-    fn thing(&self, k: u64) -> Thing
-        ensures { λ r. ⌜ (k < meaning-of L·Manager R·Manager O·Manager (tie-of (now (self .entry))) .underway → Numbered L·Manager R·Manager O·Manager (tie-of (now (self .entry))) k r) ⌝ }
-    {
-        let before_right = self.left.underway();
-        let before_outer = before_right + self.right.underway();
-        let before_moves = before_outer + self.outer.underway();
-        if k < before_right {
-            Thing::Left(k)
-        } else if k < before_outer {
-            Thing::Right(k - before_right)
-        } else if k < before_moves {
-            Thing::Outer(k - before_outer)
-        } else if k == before_moves && self.left_due() {
-            Thing::LeftMove
-        } else {
-            Thing::RightMove
         }
     }
 }

@@ -1,6 +1,6 @@
 use mathlib.Core.Path.{refl}
 use Rattle.tie.specs.Reading.{tie-of}
-use Rattle.tie.proofs.Sites.{ask-left, ask-right}
+use Rattle.tie.proofs.Islands.{ask-left, ask-right}
 use Rattle.tie.proofs.Stored.{left-as-was, right-as-was}
 use Rattle.tie.proofs.state.Tie.ask_island.Needs as need
 

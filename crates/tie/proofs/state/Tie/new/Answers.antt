@@ -1,4 +1,4 @@
-use mathlib.Core.Path.{_≡_, ap, subst}
+use mathlib.Core.Path.{subst}
 use Prim.Native.Nat.{ℕ, _-_, _<_}
 use native.Mathlib.Omega.{arith}
 use Rattle.tie_rules.specs.Reading.{meaning-of}
@@ -21,5 +21,5 @@ returns g c =
     let t′ = tie-of (c .begin-at .last .self) in
     let m = meaning-of kl kr ko t in
     let within : m .sites - 1 < m .sites = omega (arith, bounded kl kr ko t ll lr lo (omega arith) .fewest) in
-    let parked = subst (λ (n : ℕ). Parks kl kr ko t n t′) (ap (λ (n : ℕ). n - 1) (c .count-sites-last .ensures)) (c .begin-at .ensures) in
+    let parked = subst (λ (n : ℕ). Parks kl kr ko t n t′) (c .last-site-last .ensures) (c .begin-at .ensures) in
     record { parked = parked; sound = park-lawful kl kr ko ll lr lo t t′ (m .sites - 1) (site-accepted m (m .sites - 1) within) parked .0 }

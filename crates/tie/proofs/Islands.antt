@@ -1,25 +1,24 @@
 -- A call that names a site is the call of the site's island: refused as it is there, and carried out as it is there.
 use mathlib.Core.Path.{_≡_, refl, sym, ap, subst, _∙_}
-use mathlib.Core.List.{List}
-use Prim.Native.Nat.{ℕ, _-_, _≤_, _<_}
+use Prim.Native.Nat.{ℕ, _<_}
 use native.Mathlib.Omega.{arith}
 use Rattle.std.specs.declared.option.Option.{Option}
 use Rattle.std.specs.declared.option.Option.the-variants.{None}
 use Rattle.std.specs.declared.result.Result.{Result}
-use Rattle.manager.specs.Answers.{answer, Call}
 use Rattle.manager.specs.Kinds.{Kind, Obeys}
-use Rattle.manager.specs.Meaning.{Meaning, limit}
+use Rattle.manager.specs.Answers.{answer, Call}
+use Rattle.manager.specs.Meaning.{limit}
 use Rattle.manager.specs.Refusals.{refused, ask-order, free-order}
 use Rattle.manager.specs.declared.refusal.Refusal.{Refusal}
 use Rattle.manager.specs.declared.status.Status.{Status}
 use Rattle.tie_rules.specs.Invariant.{Sound}
 use Rattle.tie_rules.specs.Reading.{border, meaning-of}
-use Rattle.tie_rules.specs.Rules.{AtSite, at-left, at-right, Asks, Frees}
+use Rattle.tie_rules.specs.Rules.{at-left, at-right, Asks, Frees}
 use Rattle.tie_rules.specs.State.{Tie, next}
 use Rattle.tie_rules.proofs.Questions.{status-left, status-right}
 use Rattle.tie_rules.proofs.Refused.{ask-refused-left, ask-refused-right, free-refused-left, free-refused-right}
 use Rattle.tie.specs.Places.{PlacedAt}
-use Rattle.tie.specs.declared.state.Place.the-variants.{Left, Right}
+use Rattle.tie.specs.declared.sites.Place.the-variants.{Left, Right}
 use Rattle.tie.proofs.Answering.{same-answer}
 
 -- A call of a part, told as a call of the whole.

@@ -1,11 +1,11 @@
-use mathlib.Core.Path.{_≡_, ap, _∙_}
+use mathlib.Core.Path.{ap, _∙_}
 use Prim.Native.Nat.{ℕ}
 use Rattle.manager.specs.Answers.{holder-shown}
 use Rattle.tie_rules.specs.Reading.{last}
 use Rattle.tie.specs.Places.{own, reachable}
 use Rattle.tie.specs.Reading.{tie-of}
 use Rattle.tie.proofs.Holders.{left-holds, right-holds}
-use Rattle.tie.proofs.state.Tie.find_holder.Needs as need
+use Rattle.tie.proofs.calls.TieManager.holder.Needs as need
 
 pub returns-in-Some : need.returns-in-Some
 returns-in-Some g c =
