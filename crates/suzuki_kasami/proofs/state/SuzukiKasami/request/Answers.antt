@@ -1,4 +1,4 @@
-use mathlib.Core.Path.{_≡_, sym, ap, _∙_}
+use mathlib.Core.Path.{sym, ap, _∙_}
 use Rattle.std.proofs.shelf.Tests.{cond-true, cond-false}
 use Rattle.manager.specs.declared.status.Status.the-variants.{Waiting, Holding}
 use Rattle.counting.proofs.Sums.{upd-same}

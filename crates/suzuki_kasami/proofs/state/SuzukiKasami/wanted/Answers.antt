@@ -1,5 +1,5 @@
-use mathlib.Core.Path.{_≡_, sym, ap, _∙_}
-use mathlib.Core.Bool.{Bool, not, _&&_, _||_}
+use mathlib.Core.Path.{sym, ap, _∙_}
+use mathlib.Core.Bool.{not, _&&_, _||_}
 use lib.Dec.{eqb}
 use Rattle.counting.proofs.Tests.{any-next}
 use Rattle.suzuki_rules.specs.State.{wants}
