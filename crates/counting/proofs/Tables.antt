@@ -1,12 +1,10 @@
 -- The laws of sums over a square table.
-use mathlib.Core.Path.{_≡_, refl, sym, ap, _∙_}
-use mathlib.Core.Bool.{Bool, true, false, cond, _&&_}
-use mathlib.Core.Logic.{_⊎_, inl, inr}
+use mathlib.Core.Path.{_≡_, refl, _∙_}
+use mathlib.Core.Bool.{_&&_}
 use Prim.Native.Nat.{ℕ, _+_, _*_, _≤_, _<_}
 use native.Mathlib.Omega.{arith}
 use lib.Dec.{eqb}
-use Rattle.std.proofs.shelf.Tests.{eq-eqb, ne-eqb, cond-true, cond-false, and-left, and-right, and-from, cases-eq}
-use Rattle.counting.specs.Sums.{sum}
+use Rattle.std.proofs.shelf.Tests.{eq-eqb, ne-eqb, cond-true, cond-false, and-left, and-right, and-from}
 use Rattle.counting.specs.Tables.{row, total, before, upd2}
 use Rattle.counting.proofs.Sums.{sum-ext, sum-change, sum-at, sum-none, sum-most, sum-zero, sum-add}
 

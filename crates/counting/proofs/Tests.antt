@@ -1,5 +1,5 @@
 -- The laws of searching the numbers below n: for one that passes a test, and for the least of those in some order.
-use mathlib.Core.Path.{_≡_, refl, ap, _∙_}
+use mathlib.Core.Path.{_≡_, refl, sym, ap, _∙_}
 use mathlib.Core.Bool.{Bool, true, false, _||_}
 use mathlib.Core.Logic.{inl, inr}
 use Prim.Native.Nat.{ℕ, zero, suc, _+_, _<_}
@@ -10,9 +10,6 @@ use Rattle.counting.specs.Tests.{any}
 
 pub any-next : (test : ℕ → Bool) (n : ℕ) → any test (n + 1) ≡ (any test n || test n)
 any-next test n = ap (any test) (add-one n)
-
-pub any-stays : (test : ℕ → Bool) (n : ℕ) → any test n ≡ false → test n ≡ false → any test (n + 1) ≡ false
-any-stays test n none e = any-next test n ∙ or-from (any test n) (test n) none e
 
 pub any-some : (test : ℕ → Bool) (n : ℕ) → any test n ≡ true → (j : ℕ) × (j < n) × (test j ≡ true)
 any-some test zero h = grind arith
@@ -27,6 +24,13 @@ any-from test (suc n) j h p = elim (cases-eq j n) [
   | inl e ↦ or-right (any test n) (test n) (cc)
   | inr ne ↦ or-left (any test n) (test n) (any-from test n j (omega arith) p)
 ]
+
+-- A search that goes up by one: a test that fails, and one that passes.
+pub any-stays : (test : ℕ → Bool) (n : ℕ) → any test n ≡ false → false ≡ test n → any test (n + 1) ≡ false
+any-stays test n none e = any-next test n ∙ or-from (any test n) (test n) none (sym e)
+
+pub any-here : (test : ℕ → Bool) (n j : ℕ) → j < n → true ≡ test j → true ≡ any test n
+any-here test n j h e = sym (any-from test n j h (sym e))
 
 pub any-none : (test : ℕ → Bool) (n : ℕ) → ((j : ℕ) → j < n → test j ≡ true → ⊥) → any test n ≡ false
 any-none test n none = elim (cases-bool (any test n)) [

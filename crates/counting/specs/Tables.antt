@@ -1,5 +1,5 @@
 -- Sums over a square table of n rows and n columns, and the place of a cell in its reading order. Assumes nothing.
-use mathlib.Core.Bool.{Bool, cond, _&&_}
+use mathlib.Core.Bool.{cond, _&&_}
 use Prim.Native.Nat.{ℕ, _+_}
 use lib.Dec.{eqb}
 use Rattle.counting.specs.Sums.{sum}

@@ -7,7 +7,7 @@ use mathlib.Core.Bool.{cond}
 use Rattle.std.proofs.shelf.Tests.{cond-both, ltb-true, ltb-false}
 use Rattle.counting.specs.Sums.{one-if}
 use Rattle.counting.specs.Tables.{before}
-use Rattle.ricart_rules.specs.Rules.{requests, replies, messages}
+use Rattle.ricart_rules.specs.Rules.{requests, messages}
 use Rattle.ricart_rules.specs.State.{State, is-requested, is-replied}
 use Rattle.ricart_rules.specs.declared.Stage.{Stage}
 use Rattle.ricart_rules.specs.declared.Stage.the-variants.{Requested, Replied}

@@ -8,7 +8,7 @@ use native.Mathlib.Omega.{arith}
 use lib.Dec.{eqb, ltb}
 use lib.ListN.{length, getD, set}
 use Rattle.std.proofs.shelf.Lists.{getD-set-same, getD-set-other}
-use Rattle.std.proofs.shelf.Tests.{cases-eq, eq-eqb, eqb-true, cases-bool}
+use Rattle.std.proofs.shelf.Tests.{cases-eq, eqb-true}
 use Rattle.std.proofs.shelf.Ways.{tells}
 use Rattle.counting.proofs.Arrays.{read-row}
 use Rattle.ricart_rules.specs.Rules.{with-others}

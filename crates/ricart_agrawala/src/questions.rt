@@ -4,7 +4,6 @@ ghost use mathlib.Core.Bool.{not, _&&_};
 ghost use Prim.Native.Nat.{_<_};
 ghost use lib.Dec.{eqb};
 ghost use Rattle.counting.specs.Tests.{any};
-ghost use Rattle.manager.specs.Meaning.{is-holding};
 ghost use Rattle.ricart_rules.specs.Reading.{is-called};
 ghost use Rattle.ricart_rules.specs.Rules.{defers};
 ghost use Rattle.ricart_rules.specs.State.{earlier, lacks, is-deferred, is-received};

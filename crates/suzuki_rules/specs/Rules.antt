@@ -1,14 +1,13 @@
 -- What each call does, by the published rules. Assumes nothing.
 use mathlib.Core.Path.{_≡_}
-use mathlib.Core.Bool.{Bool, true, false, cond, not, _&&_}
+use mathlib.Core.Bool.{cond, not, _&&_}
 use mathlib.Core.List.{List, [], _∷_, _++_}
-use mathlib.Core.Logic.{_⊎_}
 use Prim.Native.Nat.{ℕ, zero, suc, _+_, _-_, _<_, max}
 use lib.Dec.{eqb, ltb}
 use Rattle.std.specs.declared.option.Option.{Option}
 use Rattle.std.specs.declared.option.Option.the-variants.{Some, None}
 use Rattle.counting.specs.Sizes.{fitted}
-use Rattle.counting.specs.Sums.{one-if, upd}
+use Rattle.counting.specs.Sums.{upd}
 use Rattle.counting.specs.Tables.{before, total, upd2}
 use Rattle.manager.specs.Meaning.{is-idle}
 use Rattle.manager.specs.declared.status.Status.the-variants.{Idle, Waiting, Holding}

@@ -1,11 +1,10 @@
 -- The state of Suzuki and Kasami's algorithm: a token goes round, and only the site that has it may hold the resource.
 -- A site that wants it sends a numbered REQUEST to all others. Assumes nothing.
-use mathlib.Core.Bool.{Bool, true, false}
+use mathlib.Core.Bool.{Bool, false}
 use mathlib.Core.List.{List}
 use Prim.Native.Nat.{ℕ, _+_}
 use lib.Dec.{eqb, ltb}
 use Rattle.std.specs.declared.option.Option.{Option}
-use Rattle.std.specs.declared.option.Option.the-variants.{Some, None}
 use Rattle.manager.specs.declared.status.Status.{Status}
 use Rattle.counting.specs.Sums.{times}
 use Rattle.suzuki_rules.specs.declared.Token.{Token}

@@ -1,7 +1,6 @@
-use mathlib.Core.Path.{sym}
 use mathlib.Core.Bool.{not, _&&_}
 use lib.Dec.{eqb}
-use Rattle.counting.proofs.Tests.{any-from, any-stays}
+use Rattle.counting.proofs.Tests.{any-here, any-stays}
 use Rattle.ricart_rules.specs.State.{is-received}
 use Rattle.ricart_agrawala.specs.Reading.{state-of}
 use Rattle.ricart_agrawala.proofs.state.RicartAgrawala.lacks_reply.Needs as need
@@ -10,9 +9,9 @@ pub returns-then-awaits : need.returns-then-awaits
 returns-then-awaits c =
     let m = c .args .self .now in
     let i = c .args .site in
-    sym (any-from (λ j. not (eqb j i) && not (is-received (state-of m .stage i j))) (m .sites) (c .loop-other .other) (c .loop-other-test .taken) (sym (c .if-awaits .ensures tt)))
+    any-here (λ j. not (eqb j i) && not (is-received (state-of m .stage i j))) (m .sites) (c .loop-other .other) (c .loop-other-test .taken) (c .if-awaits .ensures tt)
 
 pub loop-other-again : need.loop-other-again
 loop-other-again c =
     let i = c .args .site in
-    any-stays (λ j. not (eqb j i) && not (is-received (state-of (c .args .self .now) .stage i j))) (c .loop-other .other) (c .loop-other .inv) (sym (c .if-awaits .ensures tt))
+    any-stays (λ j. not (eqb j i) && not (is-received (state-of (c .args .self .now) .stage i j))) (c .loop-other .other) (c .loop-other .inv) (c .if-awaits .ensures tt)
