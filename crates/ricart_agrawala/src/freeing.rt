@@ -34,6 +34,7 @@ impl RicartAgrawala {
         self.age += 1;
     }
 
+    // Sends the REPLYs that the site owes. Past the last site nobody is deferred, so that all 16 rows may be gone through.
     fn answer_deferred(&mut self, site: usize)
         requires { ⌜ site < 16 ⌝ }
         ensures { λ _. ⌜ state-of (now (self .exit)) ≡ answered-below (state-of (now (self .entry))) site 16 ⌝ }

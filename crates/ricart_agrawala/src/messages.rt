@@ -21,17 +21,21 @@ pub(crate) enum Message {
 }
 
 // The stages of a site's request, but with this stage for each other of n sites.
-pub(crate) fn with_others(row: [Stage; 16], n: usize, site: usize, stage: Stage) -> [Stage; 16]
+pub(crate) fn with_others(
+    mut stages: [Stage; 16],
+    n: usize,
+    site: usize,
+    stage: Stage,
+) -> [Stage; 16]
     requires { ⌜ n ≤ 16 ⌝ }
-    ensures { λ r. ⌜ ((j : ℕ) → getD r j Unasked ≡ cond (ltb j n && not (eqb j site)) stage (getD row j Unasked)) ⌝ }
+    ensures { λ r. ⌜ ((j : ℕ) → getD r j Unasked ≡ cond (ltb j n && not (eqb j site)) stage (getD stages j Unasked)) ⌝ }
 {
-    let mut row = row;
     for other in 0..n {
         if other != site {
-            row[other] = stage;
+            stages[other] = stage;
         }
     }
-    row
+    stages
 }
 
 impl RicartAgrawala {
@@ -47,7 +51,7 @@ impl RicartAgrawala {
         }
     }
 
-    // How many REPLYs: one at most.
+    // How many REPLYs are, one at most,
     fn replies(&self, sender: usize, receiver: usize) -> u64
         requires { ⌜ sender < 16 ⌝ ∗ ⌜ receiver < 16 ⌝ }
         ensures { λ r. ⌜ r ≡ replies (state-of (now (self .entry))) sender receiver ⌝ ∗ ⌜ r ≤ 1 ⌝ }
@@ -59,7 +63,7 @@ impl RicartAgrawala {
         }
     }
 
-    // How many messages.
+    // and how many messages.
     fn sent(&self, sender: usize, receiver: usize) -> u64
         requires { ⌜ sender < 16 ⌝ ∗ ⌜ receiver < 16 ⌝ }
         ensures { λ r. ⌜ r ≡ messages (state-of (now (self .entry))) sender receiver ⌝ ∗ ⌜ r ≤ 2 ⌝ }
