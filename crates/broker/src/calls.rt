@@ -17,7 +17,7 @@ ghost use Rattle.broker.specs.Reading.{records-of, keeping, one-more};
 ghost use Rattle.broker.specs.Rolling.{Rolled};
 use crate::state::Broker;
 use history::Grant;
-use manager::checks::AGE_LIMIT;
+use manager::checks::LIMIT;
 use manager::interface::Manager;
 use manager::refusal::Refusal;
 use manager::status::Status;
@@ -68,7 +68,7 @@ impl<M: Manager> Broker<M> {
         self.asks
             .saturating_add(self.frees)
             .saturating_add(self.steps)
-            >= AGE_LIMIT
+            >= LIMIT
     }
 
     // What refuses an ask: the full roll is tried last, whether or not a grant would come.

@@ -8,8 +8,8 @@ ghost use Rattle.manager.specs.declared.refusal.Refusal.the-variants.{NoSite, 
 use crate::refusal::Refusal;
 use crate::status::Status;
 
-// The age at which a manager is worn out.
-pub const AGE_LIMIT: u64 = 1_000_000_000_000_000;
+// The age at which a manager is worn out, the most things under way that are counted, and the largest toll that is told.
+pub const LIMIT: u64 = 1_000_000_000_000_000;
 
 // Is the site one of as many as there are?
 pub fn check_site(site: usize, sites: usize) -> Result<(), Refusal>
@@ -24,7 +24,7 @@ pub fn check_site(site: usize, sites: usize) -> Result<(), Refusal>
 pub fn check_age(age: u64) -> Result<(), Refusal>
     ensures { λ r. ⌜ r ≡ refuse-if (leb limit age) Worn ⌝ }
 {
-    if age >= AGE_LIMIT {
+    if age >= LIMIT {
         return Err(Refusal::Worn);
     }
     Ok(())

@@ -4,9 +4,6 @@ ghost use Rattle.manager.specs.Meaning.{limit};
 use manager::interface::Manager;
 use tie_rules::Gateway;
 
-// The age at which a manager is worn out, the most things under way that are counted, and the largest toll that is told.
-pub(crate) const LIMIT: u64 = 1_000_000_000_000_000;
-
 // A tie lets the sites of two islands share one resource. An island is a manager whose last site, its gateway, stands
 // for the rest of the world. The gateways meet at the outer manager, the left one at its site 0, the right one at its
 // site 1. The tie's sites are the left island's, then the right's, without the gateways, 64 at most.

@@ -6,8 +6,8 @@ ghost use Rattle.tie_rules.specs.Sides.{due};
 ghost use Rattle.tie.specs.Reading.{tie-of};
 ghost use Rattle.tie.specs.Things.{Numbered};
 use crate::gateways::is_due;
-use crate::state::LIMIT;
 use crate::state::Tie;
+use manager::checks::LIMIT;
 use manager::interface::Manager;
 
 // A thing of a part, by its number there, or the due move of a gateway.
