@@ -1,13 +1,30 @@
--- When a wait list is refused, when a roll is not, and what a call that was refused returns.
-use Rattle.std.proofs.Common.{◌≡◌, ℕ, ◌<◌, ◌≤◌, eqb, ltb, List, [], ◌∷◌, ◌++◌, IsErrAnd, Some, None, Err, Result, ap, ◌∙◌}
-use Rattle.std.proofs.lemmas.Result.{err_from_is_err_and}
+-- Answers that are refusals and answers that are not.
+use Rattle.std.proofs.Common.{◌≡◌, ℕ, ◌<◌, ◌≤◌, true, false, cond, eqb, ltb, List, [], ◌∷◌, ◌++◌, Some, None, Ok, Err, Option, Result, sym, refl, ap, ◌∙◌, arith}
 use Rattle.std.proofs.lemmas.Bool.{eqb-false, lt-ltb, le-ltb, cond-true, cond-false}
+use Rattle.manager.specs.Answers.{answer}
 use Rattle.manager.specs.Meaning.{Meaning}
 use Rattle.manager.specs.Refusals.{tried}
 use Rattle.manager.specs.declared.refusal.Refusal.{Refusal}
 use Rattle.manager.specs.declared.refusal.Refusal.TheVariants.{RollFull, ShortWaitList}
 use Rattle.history.specs.Calls.{waits_refusal}
 use Rattle.history.proofs.Orders.{not_due, tried_last}
+
+pub ok_not_err : {A B : Type 0} (a : A) (b : B) → Ok a ≡ Err b → ⊥
+ok_not_err a b e = let z : ◌≡◌ {A = ℕ} 0 1 = cc in omega arith
+
+-- An answer that is no refusal.
+pub accepted : {A : Type 0} (o : Option Refusal) (a x : A) → Ok x ≡ answer o a → o ≡ None
+accepted None a x e = refl
+accepted (Some r) a x e = absurd (ok_not_err x r e)
+
+pub accepted_value : {A : Type 0} (o : Option Refusal) (a x : A) → Ok x ≡ answer o a → x ≡ a
+accepted_value None a x e = cc
+accepted_value (Some r) a x e = absurd (ok_not_err x r e)
+
+-- One that is.
+pub refusing : {A : Type 0} (o : Option Refusal) (a : A) (r : Refusal) → Err r ≡ answer o a → o ≡ Some r
+refusing None a r e = absurd (ok_not_err a r (sym e))
+refusing (Some x) a r e = cc
 
 pub short_list : (m : Meaning) (places : ℕ) → places < m.sites → waits_refusal m places ≡ Some ShortWaitList
 short_list m places h = cond-true (ltb places m.sites) (Some ShortWaitList) None (lt-ltb places m.sites h)
@@ -20,7 +37,3 @@ pub has_room : (rs : List Refusal) (m : Meaning) (k room : ℕ) → tried (rs ++
 has_room rs m k room none full =
     let last = (not_due (eqb room 0) RollFull None (tried_last rs (RollFull ∷ []) m k room none)).0 in
     eqb-false room 0 last full
-
--- A `?` hands the refusal on.
-pub handed_on : {A : Type 0} (r : Result A Refusal) (e : Refusal) → IsErrAnd r (λ y. y ≡ e) → r ≡ Err e
-handed_on r e by = let p = err_from_is_err_and r by in p.1 ∙ ap Err p.2

@@ -1,35 +1,40 @@
 // The calls that carry out one thing: ask, free and step.
-ghost use Rattle.std.specs.Prelude.{◌≡◌, ℕ, ◌+◌, ◌<◌, [], ◌∷◌, length, Some, Ok, ◌≢◌, nat_le};
-ghost use Rattle.manager.specs.Meaning.{limit, most_sites};
+ghost use Rattle.std.specs.Prelude.{◌≡◌, ℕ, ◌+◌, ◌<◌, List, [], length, Ok, Option, nat_le, slice_set};
+ghost use Rattle.manager.specs.Answers.{answer};
+ghost use Rattle.manager.specs.Meaning.{limit};
 ghost use Rattle.roll.specs.Contents.{room_of};
-ghost use Rattle.history.specs.Calls.{ask as ask_call, step as step_call};
-ghost use Rattle.history.specs.Records.{Well, given_to, grants_by_ask, grants_by_step};
-ghost use Rattle.broker.specs.Outcome.{AskOutcome, FreeOutcome, StepOutcome, RefusesWhatIsDue};
-ghost use Rattle.broker.specs.Reading.{records_of, noting_ask, noting_free, noting_step};
+ghost use Rattle.history.specs.Calls.{ask as ask_call, free as free_call, step as step_call, ask_refusal, step_refusal};
+ghost use Rattle.history.specs.Records.{Well, grants_by_step};
+ghost use Rattle.history.specs.declared.Grant.{Grant};
+ghost use Rattle.broker.specs.Outcome.{Outcome};
+ghost use Rattle.broker.specs.Reading.{records_of, keeping, one_more};
 ghost use Rattle.broker.specs.Rolling.{Rolled};
 
 use crate::state::Broker;
 use history::Grant;
-use manager::{LIMIT, MOST_SITES, Manager, Refusal, Status};
-use roll::Roll;
+use manager::checks::LIMIT;
+use manager::interface::Manager;
+use manager::refusal::Refusal;
+use manager::status::Status;
+use roll::list::Roll;
 
 impl<M: Manager> Broker<M> {
     // Asks for a site, and answers its status then. A site served there and then is a grant.
     pub fn ask(&mut self, site: usize, roll: &mut Roll<'_, Grant>) -> Result<Status, Refusal>
-        ensures is_one_call { Well M.Manager (records_of self.old) →
-            AskOutcome M.Manager self.old site roll.old self.new roll.new result }
+        ensures is_one_call { Well M.Manager (records_of self.old) → (grants : List Grant) × Outcome M.Manager self.old (ask_call site (room_of roll.old)) grants self.new ((M.Manager.meaning self.new.manager).status site) result × Rolled roll.old roll.new grants }
     {
         self.may_ask(site, roll)?;
         let status = self.manager.ask(site)?;
         self.note_ask(site);
-        add_if_served(roll, site, status);
+        if let Status::Holding = status {
+            let _ = roll.push(Grant { site, waited: 0 });
+        }
         Ok(status)
     }
 
     // Ends a site's hold.
     pub fn free(&mut self, site: usize) -> Result<(), Refusal>
-        ensures is_one_call { Well M.Manager (records_of self.old) →
-            FreeOutcome M.Manager self.old site self.new result }
+        ensures is_one_call { Well M.Manager (records_of self.old) → Outcome M.Manager self.old (free_call site) [] self.new tt result }
     {
         self.manager.free(site)?;
         self.note_free();
@@ -38,29 +43,21 @@ impl<M: Manager> Broker<M> {
 
     // Carries out thing number k of those under way, and answers the site that came to hold, if one did: that is a grant.
     pub fn step(&mut self, k: u64, roll: &mut Roll<'_, Grant>) -> Result<Option<usize>, Refusal>
-        ensures is_one_call { Well M.Manager (records_of self.old) →
-            StepOutcome M.Manager self.old k roll.old self.new roll.new result }
+        ensures is_one_call { Well M.Manager (records_of self.old) → (site : Option ℕ) × (grants : List Grant) × Outcome M.Manager self.old (step_call k (room_of roll.old)) grants self.new site result × Rolled roll.old roll.new grants × (result ≡ Ok site → grants ≡ grants_by_step M.Manager (records_of self.old) site) }
     {
         self.may_step(k, roll)?;
         let granted = self.manager.step(k)?;
         self.note_step();
-        self.add_if_granted(roll, granted);
-        Ok(granted)
-    }
-
-    // Adds to the roll that a site came to hold, if one did, and how many steps it had waited.
-    fn add_if_granted(&self, roll: &mut Roll<'_, Grant>, granted: Option<usize>)
-        ensures adds_grant_if_any { ((i : ℕ) → granted ≡ Some i → i < most_sites) → (room_of roll.old ≢ 0) →
-            Rolled roll.old roll.new (grants_by_step (records_of self.now) granted) }
-    {
         if let Some(site) = granted {
-            add_grant(roll, site, self.since_ask(site));
+            let waited = self.since_ask(site);
+            let _ = roll.push(Grant { site, waited });
         }
+        Ok(granted)
     }
 
     // The totals have reached the age at which a manager is worn out.
     fn worn(&self) -> bool
-        ensures tells_whether_worn { result ≡ nat_le limit (self.now.asks + self.now.frees + self.now.steps) }
+        ensures { result ≡ nat_le limit (self.now.asks + self.now.frees + self.now.steps) }
     {
         self.asks
             .saturating_add(self.frees)
@@ -70,8 +67,8 @@ impl<M: Manager> Broker<M> {
 
     // What refuses an ask: the full roll is tried last, whether or not a grant would come.
     fn may_ask(&self, site: usize, roll: &Roll<'_, Grant>) -> Result<(), Refusal>
-        ensures allows_only_sites { result ≡ Ok tt → site < (M.Manager.meaning self.now.manager).sites }
-        ensures refuses_what_is_due { RefusesWhatIsDue M.Manager self.now (ask_call site (room_of roll.now)) result }
+        ensures site { result ≡ Ok tt → site < (M.Manager.meaning self.now.manager).sites }
+        ensures answers { Well M.Manager (records_of self.now) → result ≡ answer (ask_refusal (M.Manager.meaning self.now.manager) site (room_of roll.now)) tt }
     {
         let status = self.manager.status(site)?;
         if self.worn() {
@@ -88,7 +85,7 @@ impl<M: Manager> Broker<M> {
 
     // What refuses a step, the full roll last.
     fn may_step(&self, thing: u64, roll: &Roll<'_, Grant>) -> Result<(), Refusal>
-        ensures refuses_what_is_due { RefusesWhatIsDue M.Manager self.now (step_call thing (room_of roll.now)) result }
+        ensures { Well M.Manager (records_of self.now) → result ≡ answer (step_refusal (M.Manager.meaning self.now.manager) thing (room_of roll.now)) tt }
     {
         if self.worn() {
             return Err(Refusal::Worn);
@@ -105,9 +102,9 @@ impl<M: Manager> Broker<M> {
 
     // One more ask is carried out, by this site, with so many steps so far.
     fn note_ask(&mut self, site: usize)
-        requires { site < most_sites }
-        ensures counts_the_ask { self.new ≡ noting_ask self.old site }
-        ensures has_a_place_for_each_site { length self.old.asked ≡ most_sites }
+        requires { site < 64 }
+        ensures noted { self.new ≡ keeping self.old (one_more self.old.asks) self.old.frees self.old.steps (slice_set self.old.asked site self.old.steps) }
+        ensures wide { length self.old.asked ≡ 64 }
     {
         self.asks = self.asks.saturating_add(1);
         self.asked[site] = self.steps;
@@ -115,35 +112,15 @@ impl<M: Manager> Broker<M> {
 
     // One more free is carried out.
     fn note_free(&mut self)
-        ensures counts_the_free { self.new ≡ noting_free self.old }
+        ensures { self.new ≡ keeping self.old self.old.asks (one_more self.old.frees) self.old.steps self.old.asked }
     {
         self.frees = self.frees.saturating_add(1);
     }
 
     // One more step is carried out.
     fn note_step(&mut self)
-        ensures counts_the_step { self.new ≡ noting_step self.old }
+        ensures { self.new ≡ keeping self.old self.old.asks self.old.frees (one_more self.old.steps) self.old.asked }
     {
         self.steps = self.steps.saturating_add(1);
-    }
-}
-
-// Adds to the roll that a site was served there and then, if its status at the end of an ask says so.
-fn add_if_served(roll: &mut Roll<'_, Grant>, site: usize, status: Status)
-    ensures adds_grant_if_holding { site < most_sites → (room_of roll.old ≢ 0) →
-        Rolled roll.old roll.new (grants_by_ask site status) }
-{
-    if let Status::Holding = status {
-        add_grant(roll, site, 0);
-    }
-}
-
-// Adds to the roll that a site was given the resource, if it is one that a manager can have.
-fn add_grant(roll: &mut Roll<'_, Grant>, site: usize, waited: u64)
-    ensures adds_the_grant { site < most_sites → (room_of roll.old ≢ 0) →
-        Rolled roll.old roll.new (given_to site waited ∷ []) }
-{
-    if site < MOST_SITES {
-        let _ = roll.push(Grant { site, waited });
     }
 }

@@ -1,18 +1,23 @@
 // A drain: steps in a row until nothing is under way, or until it is stopped.
+ghost use Rattle.std.specs.Prelude.{◌≡◌, List};
+ghost use Rattle.roll.specs.Contents.{room_of};
+ghost use Rattle.history.specs.Calls.{Drained, drain as drain_call};
+ghost use Rattle.history.specs.Histories.{Performed};
 ghost use Rattle.history.specs.Records.{Well};
-ghost use Rattle.broker.specs.Outcome.{DrainOutcome};
+ghost use Rattle.history.specs.declared.Grant.{Grant};
 ghost use Rattle.broker.specs.Reading.{records_of};
+ghost use Rattle.broker.specs.Rolling.{Rolled};
 
 use crate::state::{Broker, DrainReport};
 use history::Grant;
-use manager::{Manager, Refusal};
-use roll::Roll;
+use manager::interface::Manager;
+use manager::refusal::Refusal;
+use roll::list::Roll;
 
 impl<M: Manager> Broker<M> {
     // Carries out step 0 while something is under way, at most `bound` times.
     pub fn drain(&mut self, bound: u64, roll: &mut Roll<'_, Grant>) -> DrainReport
-        ensures is_one_call { Well M.Manager (records_of self.old) →
-            DrainOutcome M.Manager self.old bound roll.old self.new roll.new result }
+        ensures is_one_call { Well M.Manager (records_of self.old) → (grants : List Grant) × Drained M.Manager (records_of self.old) bound (room_of roll.old) result.steps grants result.stopped (records_of self.new) × Performed M.Manager (records_of self.old) (drain_call bound (room_of roll.old)) grants (records_of self.new) × Rolled roll.old roll.new grants }
     {
         let mut steps = 0;
         while self.manager.underway() > 0 {

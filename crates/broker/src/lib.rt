@@ -4,8 +4,5 @@ mod calls;
 mod drain;
 mod making;
 mod questions;
-mod state;
+pub mod state;
 mod waits;
-
-pub use history::Grant;
-pub use state::{Broker, DrainReport};

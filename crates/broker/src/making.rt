@@ -1,16 +1,18 @@
 // How a broker is made and started. The promise about every history stands here, on the calls that begin one.
-ghost use Rattle.std.specs.Prelude.{◌≡◌, ◌-◌};
+ghost use Rattle.std.specs.Prelude.{◌≡◌, ◌-◌, replicate, Ok, Err};
+ghost use Rattle.manager.specs.Answers.{answer};
+ghost use Rattle.manager.specs.Refusals.{refused, site_order};
 ghost use Rattle.history.specs.Promise.{Begun};
-ghost use Rattle.broker.specs.Outcome.{StartOutcome};
-ghost use Rattle.broker.specs.Reading.{records_of, forgetting};
+ghost use Rattle.broker.specs.Reading.{records_of, keeping};
 
 use crate::state::Broker;
-use manager::{MOST_SITES, Manager, Refusal};
+use manager::interface::Manager;
+use manager::refusal::Refusal;
 
 impl<M: Manager> Broker<M> {
     // A broker over the manager, started at its last site.
     pub fn new(manager: M) -> Broker<M>
-        ensures begins_at_last_site { Begun M.Manager manager ((M.Manager.meaning manager).sites - 1) (records_of result) }
+        ensures begins { Begun M.Manager manager ((M.Manager.meaning manager).sites - 1) (records_of result) }
     {
         let mut manager = manager;
         let last = last_of(&manager);
@@ -20,13 +22,15 @@ impl<M: Manager> Broker<M> {
             asks: 0,
             frees: 0,
             steps: 0,
-            asked: [0; MOST_SITES],
+            asked: [0; 64],
         }
     }
 
     // Parks the manager at the site and begins anew.
     pub fn start(&mut self, site: usize) -> Result<(), Refusal>
-        ensures begins_or_refuses { StartOutcome M.Manager self.old site self.new result }
+        ensures answers { result ≡ answer (refused site_order (M.Manager.meaning self.old.manager) site) tt }
+        ensures begins { result ≡ Ok tt → Begun M.Manager self.old.manager site (records_of self.new) }
+        ensures refused_leaves_all { (e : Refusal) → result ≡ Err e → self.new ≡ self.old }
     {
         self.manager.park(site)?;
         self.forget();
@@ -35,18 +39,18 @@ impl<M: Manager> Broker<M> {
 
     // Sets the totals to 0, and forgets when each site asked.
     fn forget(&mut self)
-        ensures sets_all_to_zero { self.new ≡ forgetting self.old }
+        ensures { self.new ≡ keeping self.old 0 0 0 (replicate 64 0) }
     {
         self.asks = 0;
         self.frees = 0;
         self.steps = 0;
-        self.asked = [0; MOST_SITES];
+        self.asked = [0; 64];
     }
 }
 
 // The last site of a manager.
 fn last_of<M: Manager>(manager: &M) -> usize
-    ensures gives_the_last_site { result ≡ (M.Manager.meaning manager.now).sites - 1 }
+    ensures { result ≡ (M.Manager.meaning manager.now).sites - 1 }
 {
     manager.sites() - 1
 }

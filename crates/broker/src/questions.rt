@@ -3,7 +3,9 @@ ghost use Rattle.std.specs.Prelude.{◌≡◌};
 ghost use Rattle.manager.specs.Answers.{status_shown, called_shown, holder_shown, toll_shown};
 
 use crate::state::Broker;
-use manager::{Manager, Refusal, Status};
+use manager::interface::Manager;
+use manager::refusal::Refusal;
+use manager::status::Status;
 
 impl<M: Manager> Broker<M> {
     pub fn sites(&self) -> usize

@@ -1,12 +1,16 @@
 // How long each site has waited: nothing is counted at a step, for a wait is the steps now less the steps at the ask.
-ghost use Rattle.std.specs.Prelude.{◌≡◌, ◌-◌, ◌<◌, length, slice_index};
+ghost use Rattle.std.specs.Prelude.{◌≡◌, ℕ, ◌-◌, ◌<◌, [], length, Ok, Err, slice_index};
+ghost use Rattle.manager.specs.Answers.{answer};
+ghost use Rattle.history.specs.Calls.{write_waits, waits_refusal};
+ghost use Rattle.history.specs.Histories.{Performed};
 ghost use Rattle.history.specs.Records.{Well, wait, wait_shown};
-ghost use Rattle.broker.specs.Outcome.{WaitsOutcome};
 ghost use Rattle.broker.specs.Reading.{records_of};
-ghost use Rattle.broker.specs.Waits.{WritesOrRefuses};
+ghost use Rattle.broker.specs.Waits.{Listed};
 
 use crate::state::Broker;
-use manager::{Manager, Refusal, Status};
+use manager::interface::Manager;
+use manager::refusal::Refusal;
+use manager::status::Status;
 
 impl<M: Manager> Broker<M> {
     // The steps carried out since the site's ask, or 0 where it is not waiting.
@@ -21,9 +25,10 @@ impl<M: Manager> Broker<M> {
 
     // Writes the wait of each site into the list, from its first place on. Later places stay.
     pub fn write_waits(&self, list: &mut [u64]) -> Result<(), Refusal>
-        ensures writes_or_refuses { WritesOrRefuses M.Manager self.now list.old list.new result }
-        ensures is_one_call { Well M.Manager (records_of self.now) →
-            WaitsOutcome M.Manager self.now (length list.old) result }
+        ensures answers { result ≡ answer (waits_refusal (M.Manager.meaning self.now.manager) (length list.old)) tt }
+        ensures writes { result ≡ Ok tt → Listed (wait M.Manager (records_of self.now)) (M.Manager.meaning self.now.manager).sites list.old list.new }
+        ensures refused_leaves_all { (e : Refusal) → result ≡ Err e → list.new ≡ list.old }
+        ensures is_one_call { Well M.Manager (records_of self.now) → Performed M.Manager (records_of self.now) (write_waits (length list.old)) [] (records_of self.now) }
     {
         let sites = self.manager.sites();
         if list.len() < sites {
@@ -37,8 +42,7 @@ impl<M: Manager> Broker<M> {
 
     // The wait of a number that is a site.
     fn wait_of(&self, site: usize) -> u64
-        ensures tells_the_wait { site < (M.Manager.meaning self.now.manager).sites →
-            result ≡ wait M.Manager (records_of self.now) site }
+        ensures { site < (M.Manager.meaning self.now.manager).sites → result ≡ wait M.Manager (records_of self.now) site }
     {
         match self.manager.status(site) {
             Ok(Status::Waiting) => self.since_ask(site),
@@ -48,14 +52,14 @@ impl<M: Manager> Broker<M> {
 
     // The steps carried out since the site last asked.
     pub(crate) fn since_ask(&self, site: usize) -> u64
-        ensures tells_steps_since { result ≡ self.now.steps - slice_index self.now.asked site }
+        ensures { result ≡ self.now.steps - slice_index self.now.asked site }
     {
         self.steps.saturating_sub(self.steps_at_ask(site))
     }
 
     // The total of steps when the site last asked.
     fn steps_at_ask(&self, site: usize) -> u64
-        ensures tells_steps_then { result ≡ slice_index self.now.asked site }
+        ensures { result ≡ slice_index self.now.asked site }
     {
         match self.asked.get(site) {
             Some(steps) => *steps,

@@ -4,7 +4,7 @@ use mathlib.Core.Path.{fun_ext}
 use Rattle.std.proofs.lemmas.List.{get_or-set_same, get_or-set_other, length-replicate, get_or_past, set_past}
 use Rattle.std.proofs.lemmas.Bool.{cases_eq, cases_lt}
 use Rattle.counting.specs.Sums.{upd}
-use Rattle.counting.specs.Tables.{upd2, Square}
+use Rattle.counting.specs.Tables.{upd2}
 use Rattle.counting.proofs.Sums.{upd_same, upd_other}
 use Rattle.counting.proofs.Tables.{upd2_same, upd2_row, upd2_column}
 
@@ -50,20 +50,17 @@ module _ {A : Type 0} where
       let len : length (replicate n a) ≡ n = length-replicate n a in
       read_set (replicate n a) i v a (omega arith) k ∙ ap (λ f. upd f i v k) (fun_ext (read_flat n a))
 
-  -- A table stays square where a row is written that is as long.
-  pub square_set : (t : List (List A)) (i : ℕ) (xs : List A) (n : ℕ) → i < length t → length xs ≡ n → Square n t → Square n (set t i xs)
-  square_set t i xs n h e square a l = elim (cases_eq a i) [
+  -- A write leaves the rows as long as they were.
+  pub wide_set : (t : List (List A)) (i : ℕ) (xs : List A) (n : ℕ) → i < length t → length xs ≡ n → (a : ℕ) → length (get_or t a []) ≡ n → length (get_or (set t i xs) a []) ≡ n
+  wide_set t i xs n h e a w = elim (cases_eq a i) [
     | inl q ↦ rw (q, get_or-set_same t i xs [] h) e
-    | inr ne ↦ rw (get_or-set_other t i a xs [] ne) (square a l)
+    | inr ne ↦ rw (get_or-set_other t i a xs [] ne) w
   ]
 
-  wide_flat : (n m : ℕ) (a : A) (i : ℕ) → i < n → length (get_or (replicate n (replicate m a)) i []) ≡ m
+  pub wide_flat : (n m : ℕ) (a : A) (i : ℕ) → i < n → length (get_or (replicate n (replicate m a)) i []) ≡ m
   wide_flat zero m a i h = absurd (omega arith)
   wide_flat (suc n) m a zero h = length-replicate m a
   wide_flat (suc n) m a (suc i) h = wide_flat n m a i (omega arith)
-
-  pub square_flat : (n : ℕ) (a : A) → Square n (replicate n (replicate n a))
-  square_flat n a = wide_flat n n a
 
 module _ {A : Type 0} where
   cond_read : (here : Bool) (xs ys : List A) (k : ℕ) (d : A) → get_or (cond here xs ys) k d ≡ cond here (get_or xs k d) (get_or ys k d)

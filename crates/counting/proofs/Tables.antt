@@ -1,9 +1,8 @@
 -- The laws of sums over a square table.
-use Rattle.std.proofs.Common.{◌≡◌, ℕ, ◌+◌, ◌-◌, ◌*◌, ◌<◌, ◌≤◌, ◌&&◌, eqb, refl, ap, ◌∙◌, arith}
+use Rattle.std.proofs.Common.{◌≡◌, ℕ, ◌+◌, ◌*◌, ◌<◌, ◌≤◌, ◌&&◌, eqb, refl, ◌∙◌, arith}
 use Rattle.std.proofs.lemmas.Bool.{eq-eqb, ne_eqb, cond-true, cond-false, and_left, and_right, and_from}
-use Rattle.counting.specs.Sums.{sum}
 use Rattle.counting.specs.Tables.{row, total, before, upd2}
-use Rattle.counting.proofs.Sums.{sum_ext, sum_change, sum_at, sum_none, sum_most, sum_more, sum_zero, sum_add, sum_but_one}
+use Rattle.counting.proofs.Sums.{sum_ext, sum_change, sum_at, sum_none, sum_most, sum_zero, sum_add}
 
 pub upd2_same : {A : Type 0} (f : ℕ → ℕ → A) (i j : ℕ) (v : A) → upd2 f i j v i j ≡ v
 upd2_same f i j v = cond-true (eqb i i && eqb j j) v (f i j) (and_from (eqb i i) (eqb j j) (eq-eqb i i refl) (eq-eqb j j refl))
@@ -36,23 +35,6 @@ module _ (f g : ℕ → ℕ → ℕ) (n i : ℕ) (within : i < n) where
       let outer : total g n + row f n i ≡ total f n + row g n i = total_row_change rows in
       let inner : row g n i + f i j ≡ row f n i + g i j = sum_change (f i) (g i) n j h columns in
       omega arith
-
-  -- Where only row i is new, its cells count for at most 1 and (i, i) for nothing, the total gains less than n.
-  pub total_row_gains : ((a b : ℕ) → a < n → b < n → (a ≡ i → ⊥) → g a b ≡ f a b) → ((j : ℕ) → g i j ≤ 1) → g i i ≡ 0 → total g n ≤ total f n + (n - 1)
-  total_row_gains e most none =
-      omega (arith, total_row_change e, sum_but_one (g i) n i within (λ j l. most j) none)
-
-  -- Where only the cell (i, j) changes, from 1 to nothing, the total loses 1.
-  pub total_cell_cleared : (j : ℕ) → j < n → ((a b : ℕ) → a < n → b < n → (a ≡ i → ⊥) → g a b ≡ f a b) → ((b : ℕ) → b < n → (b ≡ j → ⊥) → g i b ≡ f i b) → f i j ≡ 1 → g i j ≡ 0 → total g n + 1 ≡ total f n
-  total_cell_cleared j h rows columns one none = omega (arith, total_change j h rows columns)
-
--- In reading order the next cell is the one to the right,
-pub before_right : (f : ℕ → ℕ → ℕ) (n i j : ℕ) → before f n i (j + 1) ≡ before f n i j + f i j
-before_right f n i j = omega (arith, sum_more (f i) j)
-
--- and after the last of a row comes the first of the row below.
-pub before_below : (f : ℕ → ℕ → ℕ) (n i j : ℕ) → j ≡ n → before f n (i + 1) 0 ≡ before f n i j
-before_below f n i j last = omega (arith, sum_more (row f n) i, ap (sum (f i)) last)
 
 -- A cell and all before it are within the total.
 pub before_at : (f : ℕ → ℕ → ℕ) (n i j : ℕ) → i < n → j < n → before f n i j + f i j ≤ total f n

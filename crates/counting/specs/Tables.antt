@@ -1,5 +1,5 @@
--- Square tables of n rows and n columns, their sums, and the place of a cell in their reading order. Assumes nothing.
-use Rattle.std.specs.Prelude.{◌≡◌, ℕ, ◌+◌, ◌<◌, cond, ◌&&◌, List, [], length, ◌==◌, slice_index_or}
+-- Sums over a square table of n rows and n columns, and the place of a cell in its reading order. Assumes nothing.
+use Rattle.std.specs.Prelude.{ℕ, ◌+◌, cond, ◌&&◌, ◌==◌}
 use Rattle.counting.specs.Sums.{sum}
 
 abbrev pub row : (ℕ → ℕ → ℕ) → ℕ → ℕ → ℕ
@@ -15,7 +15,3 @@ before cell n i j = sum (row cell n) i + sum (cell i) j
 -- f, but v at (i, j)
 abbrev pub upd2 : {A : Type 0} → (ℕ → ℕ → A) → (i j : ℕ) → A → ℕ → ℕ → A
 upd2 f i j v a b = cond (a == i && b == j) v (f a b)
-
--- Each of the first n rows of a stored table has n cells.
-abbrev pub Square : {A : Type 0} → ℕ → List (List A) → Type 0
-Square n t = (i : ℕ) → i < n → length (slice_index_or t i []) ≡ n

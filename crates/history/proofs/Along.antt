@@ -1,15 +1,14 @@
 -- What one call on a broker changes, from the laws of its manager alone.
-use Rattle.std.proofs.Common.{◌≡◌, ℕ, ◌+◌, ◌*◌, ◌<◌, ◌≤◌, List, [], ◌∷◌, None, Option, refl, ◌∙◌, mul-zero, mul-one, arith}
+use Rattle.std.proofs.Common.{◌≡◌, ℕ, ◌+◌, ◌*◌, ◌<◌, ◌≤◌, Bool, true, false, cond, List, [], ◌∷◌, ◌++◌, Some, None, Option, sym, refl, ap, ◌∙◌, ap₂, mul-zero, mul-one, arith}
 use Rattle.manager.specs.Kinds.{Kind, Obeys}
-use Rattle.manager.specs.Meaning.{limit}
 use Rattle.manager.specs.Refusals.{due, refused, ask_order, step_order}
-use Rattle.manager.proofs.Accepted.{accepted_ask, accepted_free, accepted_step}
 use Rattle.manager.specs.declared.refusal.Refusal.{Refusal}
 use Rattle.manager.specs.declared.refusal.Refusal.TheVariants.{RollFull, LimitReached}
-use Rattle.history.specs.Calls.{Call, Done, done, Does, Drained, step_refusal}
+use Rattle.history.specs.Calls.{Call, Done, done, ◌and◌, Does, Drained, step_refusal, drain_refusal}
 use Rattle.history.specs.Calls.Drained.{finished, stopped, carried}
 use Rattle.history.specs.Calls.Does.{is_refused, asks, frees, steps, drains, writes_waits, answers}
-use Rattle.history.specs.Records.{Given, Records, Well, under, after_ask, after_free, after_step}
+use Rattle.history.specs.Records.{Records, Well, under, after_step}
+use Rattle.history.specs.declared.Grant.{Grant}
 use Rattle.history.proofs.Orders.{tried_front, not_due}
 
 -- A broker that has gone from b to c by carrying out e.
@@ -32,15 +31,11 @@ module _ {S : Type 0} (kind : Kind S) (laws : Obeys kind) where
     work = omega (arith, mul-zero (under kind b).toll);
   }
 
-  -- A manager that was not worn is one older, and so is what the totals add up to.
-  aged : (b c : Records S) → Well kind b → kind.sound c.manager → (under kind b).age < limit → (under kind c).age ≡ (under kind b).age + 1 → c.asks + c.frees + c.steps ≡ b.asks + b.frees + b.steps + 1 → Well kind c
-  aged b c w ok young older more = record { sound = ok; counted = omega (arith, w.counted); unworn = omega arith }
-
   pub stepped : (b : Records S) (k : ℕ) (g : Option ℕ) (m : S) → Well kind b → refused step_order (under kind b) k ≡ None → kind.steps b.manager k g m → Moved kind b (done 0 0 1) (after_step kind b m)
   stepped b k g m w free did =
       let now = laws.stepping b.manager m k g w.sound free did in
       record {
-        well = aged b (after_step kind b m) w now.0 (accepted_step (under kind b) k free) now.1.age (omega arith);
+        well = record { sound = now.0; counted = omega (arith, w.counted, now.1.age) };
         toll = now.1.toll;
         asks_more = omega arith;
         frees_more = omega arith;
@@ -58,7 +53,7 @@ module _ {S : Type 0} (kind : Kind S) (laws : Obeys kind) where
     work = omega (arith, p.work, q.work, mul-zero (under kind a).toll, mul-zero (under kind b).toll);
   }
 
-  pub drained : {b : Records S} {bound room taken : ℕ} {gs : List Given} {why : Option Refusal} {c : Records S} → Well kind b → Drained kind b bound room taken gs why c → Moved kind b (done 0 0 taken) c
+  pub drained : {b : Records S} {bound room taken : ℕ} {gs : List Grant} {why : Option Refusal} {c : Records S} → Well kind b → Drained kind b bound room taken gs why c → Moved kind b (done 0 0 taken) c
   drained {b} w (finished quiet) = stayed b w
   drained {b} w (stopped r busy refusal) = stayed b w
   drained {b} {bound} {room} {c = c} w (carried {taken = taken} g m busy free did more) =
@@ -66,13 +61,12 @@ module _ {S : Type 0} (kind : Kind S) (laws : Obeys kind) where
       let one = stepped b 0 g m w (tried_front step_order (RollFull ∷ []) (under kind b) 0 room unstopped) did in
       onward b (after_step kind b m) c 1 taken one (drained one.well more)
 
-  pub moves : {b : Records S} {call : Call} {e : Done} {gs : List Given} {c : Records S} → Well kind b → Does kind b call e gs c → Moved kind b e c
+  pub moves : {b : Records S} {call : Call} {e : Done} {gs : List Grant} {c : Records S} → Well kind b → Does kind b call e gs c → Moved kind b e c
   moves {b} w (is_refused r refusal) = stayed b w
   moves {b} w (asks i room m free did) =
-      let accepted = tried_front ask_order (RollFull ∷ []) (under kind b) i room free in
-      let now = laws.asking b.manager m i w.sound accepted did in
+      let now = laws.asking b.manager m i w.sound (tried_front ask_order (RollFull ∷ []) (under kind b) i room free) did in
       record {
-        well = aged b (after_ask kind b i m) w now.0 (accepted_ask (under kind b) i accepted).1 now.1.age (omega arith);
+        well = record { sound = now.0; counted = omega (arith, w.counted, now.1.age) };
         toll = now.1.toll;
         asks_more = refl;
         frees_more = omega arith;
@@ -82,7 +76,7 @@ module _ {S : Type 0} (kind : Kind S) (laws : Obeys kind) where
   moves {b} w (frees i m free did) =
       let now = laws.freeing b.manager m i w.sound free did in
       record {
-        well = aged b (after_free kind b m) w now.0 (accepted_free (under kind b) i free).1 now.1.age (omega arith);
+        well = record { sound = now.0; counted = omega (arith, w.counted, now.1.age) };
         toll = now.1.toll;
         asks_more = omega arith;
         frees_more = refl;

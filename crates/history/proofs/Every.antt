@@ -1,20 +1,23 @@
 -- Every history keeps the promise: the induction over its calls.
-use Rattle.std.proofs.Common.{◌≡◌, ℕ, ◌+◌, ◌*◌, ◌<◌, ◌≤◌, Bool, true, false, cond, leb, List, Some, None, Ok, Option, sym, refl, ap, ◌∙◌, subst, mul-one, mul-add, arith}
+use Rattle.std.proofs.Common.{◌≡◌, ℕ, ◌+◌, ◌*◌, ◌<◌, ◌≤◌, Bool, true, false, cond, leb, List, Some, None, Ok, Err, Option, Result, sym, refl, ap, ◌∙◌, subst, mul-one, mul-add, arith}
 use Rattle.std.proofs.lemmas.Bool.{leb-false}
 use Rattle.manager.specs.Answers.{answer, status_shown, holder_shown}
 use Rattle.manager.specs.Effects.{Parked}
 use Rattle.manager.specs.Kinds.{Kind, Obeys}
+use Rattle.manager.specs.Laws.{Lawful}
 use Rattle.manager.specs.Meaning.{Meaning, is_holding}
 use Rattle.manager.specs.Refusals.{refused, site_order}
 use Rattle.manager.proofs.First.{Finds, first_finds}
+use Rattle.manager.specs.declared.refusal.Refusal.{Refusal}
 use Rattle.manager.specs.declared.refusal.Refusal.TheVariants.{NoSite}
 use Rattle.manager.specs.declared.status.Status.{Status}
-use Rattle.manager.specs.declared.status.Status.TheVariants.{Waiting, Holding}
+use Rattle.manager.specs.declared.status.Status.TheVariants.{Idle, Waiting, Holding}
 use Rattle.history.specs.Calls.{Call, Done, done, ◌and◌, Does}
 use Rattle.history.specs.Histories.{History, Performed, Continues, GoesOn}
 use Rattle.history.specs.Histories.History.{begin, then}
 use Rattle.history.specs.Promise.{Kept, EveryHistory, Begun}
-use Rattle.history.specs.Records.{Given, Records, Well, started, under}
+use Rattle.history.specs.Records.{Records, Well, started, under}
+use Rattle.history.specs.declared.Grant.{Grant}
 use Rattle.history.proofs.Along.{Moved, moves}
 
 -- What is shown of a site's status is its status, and the site is one.
@@ -91,20 +94,20 @@ module _ {S : Type 0} (kind : Kind S) (laws : Obeys kind) where
       now = laws.parking m n g site did
 
       fine : Well kind (started n)
-      fine = record { sound = now.0; counted = sym now.1.age; unworn = omega (arith, now.1.age) }
+      fine = record { sound = now.0; counted = sym now.1.age }
 
       here : Begun kind m g (started n)
       here = record { parked = did; anew = refl; well = fine; promised = every_history kind laws (started n) fine refl refl refl now.1.work }
 
   -- A call that does what one call does is a step of a history.
-  pub performed : {b : Records S} {call : Call} {e : Done} {gs : List Given} {c : Records S} → Well kind b → Does kind b call e gs c → Performed kind b call gs c
+  pub performed : {b : Records S} {call : Call} {e : Done} {gs : List Grant} {c : Records S} → Well kind b → Does kind b call e gs c → Performed kind b call gs c
   performed {e = e} w d = record { carried = e; does = d; well = (moves kind laws w d).well }
 
   pub goes_nowhere : (b : Records S) → GoesOn kind b b
   goes_nowhere b w = record { carried = done 0 0 0; history = begin; well = w }
 
   -- One call is a history of one step.
-  pub one_call : {b c : Records S} {call : Call} {gs : List Given} → Performed kind b call gs c → Continues kind b c
+  pub one_call : {b c : Records S} {call : Call} {gs : List Grant} → Performed kind b call gs c → Continues kind b c
   one_call {call = call} p = record { carried = done 0 0 0 and p.carried; history = then call begin p.does; well = p.well }
 
   and_none : (d : Done) → d and done 0 0 0 ≡ d

@@ -1,11 +1,12 @@
 -- The calls on a broker: when each is refused or stops, and what it does. Assumes nothing.
-use Rattle.std.specs.Prelude.{◌≡◌, ℕ, ◌+◌, ◌-◌, ◌<◌, cond, List, [], ◌∷◌, ◌++◌, length, Some, None, Option}
+use Rattle.std.specs.Prelude.{◌≡◌, ℕ, suc, ◌+◌, ◌-◌, ◌<◌, cond, List, [], ◌∷◌, ◌++◌, length, Some, None, Option}
 use Rattle.manager.specs.Kinds.{Kind}
 use Rattle.manager.specs.Meaning.{Meaning}
 use Rattle.manager.specs.Refusals.{due, tried, refused, site_order, ask_order, free_order, step_order}
 use Rattle.manager.specs.declared.refusal.Refusal.{Refusal}
 use Rattle.manager.specs.declared.refusal.Refusal.TheVariants.{RollFull, ShortWaitList, LimitReached}
-use Rattle.history.specs.Records.{Given, Records, under, after_ask, after_free, after_step, grants_by_ask, grants_by_step}
+use Rattle.history.specs.Records.{Records, under, after_ask, after_free, after_step, grants_by_ask, grants_by_step}
+use Rattle.history.specs.declared.Grant.{Grant}
 
 -- A call, with the site or thing that it names and the room that the caller lends: free places in the grant roll, or
 -- places in the wait list. A drain is given how many steps it may take.
@@ -58,21 +59,21 @@ infixl 60 ◌and◌
 module _ {S : Type 0} (kind : Kind S) where
   -- A drain carries out step 0 while something is under way. It takes so many steps, grants the resource so, and ends
   -- with nothing under way or stops for a reason.
-  pub data Drained : Records S → (bound room : ℕ) → (taken : ℕ) → List Given → Option Refusal → Records S → Type 0 where
+  pub data Drained : Records S → (bound room : ℕ) → (taken : ℕ) → List Grant → Option Refusal → Records S → Type 0 where
     finished : {b : Records S} {bound room : ℕ} → (under kind b).underway ≡ 0 → Drained b bound room 0 [] None b
     stopped : {b : Records S} {bound room : ℕ} (r : Refusal) → 0 < (under kind b).underway → drain_refusal (under kind b) bound room ≡ Some r → Drained b bound room 0 [] (Some r) b
-    carried : {b : Records S} {bound room taken : ℕ} {gs : List Given} {why : Option Refusal} {c : Records S} (g : Option ℕ) (m : S) →
+    carried : {b : Records S} {bound room taken : ℕ} {gs : List Grant} {why : Option Refusal} {c : Records S} (g : Option ℕ) (m : S) →
         0 < (under kind b).underway → drain_refusal (under kind b) bound room ≡ None → kind.steps b.manager 0 g m →
-        Drained (after_step kind b m) (bound - 1) (room - length (grants_by_step (after_step kind b m) g)) taken gs why c →
-        Drained b bound room (taken + 1) (grants_by_step (after_step kind b m) g ++ gs) why c
+        Drained (after_step kind b m) (bound - 1) (room - length (grants_by_step kind b g)) taken gs why c →
+        Drained b bound room (taken + 1) (grants_by_step kind b g ++ gs) why c
 
   -- One call on a broker: what it carried out, the grants that it added to the roll, and the broker after it. A refused
   -- call does nothing. (A start that is accepted begins a new history.)
-  pub data Does (b : Records S) : Call → Done → List Given → Records S → Type 0 where
+  pub data Does (b : Records S) : Call → Done → List Grant → Records S → Type 0 where
     is_refused : {c : Call} (r : Refusal) → refusal (under kind b) c ≡ Some r → Does b c (done 0 0 0) [] b
-    asks : (i room : ℕ) (m : S) → refusal (under kind b) (ask i room) ≡ None → kind.asks b.manager i m → Does b (ask i room) (done 1 0 0) (grants_by_ask i ((kind.meaning m).status i)) (after_ask kind b i m)
+    asks : (i room : ℕ) (m : S) → refusal (under kind b) (ask i room) ≡ None → kind.asks b.manager i m → Does b (ask i room) (done 1 0 0) (grants_by_ask kind i m) (after_ask kind b i m)
     frees : (i : ℕ) (m : S) → refusal (under kind b) (free i) ≡ None → kind.frees b.manager i m → Does b (free i) (done 0 1 0) [] (after_free kind b m)
-    steps : (k room : ℕ) (g : Option ℕ) (m : S) → refusal (under kind b) (step k room) ≡ None → kind.steps b.manager k g m → Does b (step k room) (done 0 0 1) (grants_by_step (after_step kind b m) g) (after_step kind b m)
-    drains : {bound room taken : ℕ} {gs : List Given} {why : Option Refusal} {c : Records S} → Drained b bound room taken gs why c → Does b (drain bound room) (done 0 0 taken) gs c
+    steps : (k room : ℕ) (g : Option ℕ) (m : S) → refusal (under kind b) (step k room) ≡ None → kind.steps b.manager k g m → Does b (step k room) (done 0 0 1) (grants_by_step kind b g) (after_step kind b m)
+    drains : {bound room taken : ℕ} {gs : List Grant} {why : Option Refusal} {c : Records S} → Drained b bound room taken gs why c → Does b (drain bound room) (done 0 0 taken) gs c
     writes_waits : (places : ℕ) → refusal (under kind b) (write_waits places) ≡ None → Does b (write_waits places) (done 0 0 0) [] b
     answers : Does b question (done 0 0 0) [] b

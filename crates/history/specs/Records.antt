@@ -1,12 +1,11 @@
 -- What a broker keeps, and what it shows of it. Assumes nothing.
-use Rattle.std.specs.Prelude.{◌≡◌, ℕ, ◌+◌, ◌-◌, ◌≤◌, cond, List, [], ◌∷◌, Some, None, Option, Result}
+use Rattle.std.specs.Prelude.{◌≡◌, ℕ, ◌+◌, ◌-◌, cond, List, [], ◌∷◌, Some, None, Option, Result}
 use Rattle.counting.specs.Sums.{upd}
 use Rattle.manager.specs.Answers.{answer}
 use Rattle.manager.specs.Kinds.{Kind}
-use Rattle.manager.specs.Meaning.{Meaning, limit, is_waiting, is_holding}
+use Rattle.manager.specs.Meaning.{Meaning, is_waiting, is_holding}
 use Rattle.manager.specs.Refusals.{refused, site_order}
 use Rattle.manager.specs.declared.refusal.Refusal.{Refusal}
-use Rattle.manager.specs.declared.status.Status.{Status}
 use Rattle.history.specs.declared.Grant.{Grant}
 
 -- A broker keeps a manager, the totals of the asks, frees and steps carried out since it was started, and for each site
@@ -18,30 +17,12 @@ pub record Records (S : Type 0) : Type 0 where
   pub steps : ℕ
   pub asked : ℕ → ℕ
 
--- The resource was given to a site, which had waited for so many steps.
-pub record Given : Type 0 where
-  pub site : ℕ
-  pub waited : ℕ
-
-abbrev pub given_to : (site waited : ℕ) → Given
-given_to site waited = record { site = site; waited = waited }
-
--- What a grant of the roll tells. (Its site is moreover one that a manager can have.)
-abbrev pub told_by : Grant → Given
-told_by g = given_to g.site g.waited
+abbrev pub grant : (site waited : ℕ) → Grant
+grant site waited = record { site = site; waited = waited }
 
 -- Just made or started: nothing has been carried out.
 abbrev pub started : {S : Type 0} → S → Records S
 started m = record { manager = m; asks = 0; frees = 0; steps = 0; asked = λ i. 0 }
-
--- An ask of site i gives it the resource if it holds then. It has waited 0 steps.
-abbrev pub grants_by_ask : ℕ → Status → List Given
-grants_by_ask i status = cond (is_holding status) (given_to i 0 ∷ []) []
-
--- A step gives the resource to a site, or to none. The broker is the one after it, for the granting step counts as waited.
-abbrev pub grants_by_step : {S : Type 0} → Records S → Option ℕ → List Given
-grants_by_step b None = []
-grants_by_step b (Some i) = given_to i (b.steps - b.asked i) ∷ []
 
 module _ {S : Type 0} (kind : Kind S) where
   -- The meaning of the manager under a broker.
@@ -59,16 +40,22 @@ module _ {S : Type 0} (kind : Kind S) where
   abbrev pub after_ask : Records S → ℕ → S → Records S
   after_ask b i m = record { manager = m; asks = b.asks + 1; frees = b.frees; steps = b.steps; asked = upd b.asked i b.steps }
 
+  -- A site served there and then has waited 0 steps.
+  abbrev pub grants_by_ask : ℕ → S → List Grant
+  grants_by_ask i m = cond (is_holding ((kind.meaning m).status i)) (grant i 0 ∷ []) []
+
   abbrev pub after_free : Records S → S → Records S
   after_free b m = record { manager = m; asks = b.asks; frees = b.frees + 1; steps = b.steps; asked = b.asked }
 
   abbrev pub after_step : Records S → S → Records S
   after_step b m = record { manager = m; asks = b.asks; frees = b.frees; steps = b.steps + 1; asked = b.asked }
 
-  -- What every call on a started broker keeps.
+  -- The granting step counts as waited.
+  abbrev pub grants_by_step : Records S → Option ℕ → List Grant
+  grants_by_step b None = []
+  grants_by_step b (Some i) = grant i (b.steps + 1 - b.asked i) ∷ []
+
+  -- What every call on a started broker keeps: the manager is sound, and the totals add up to its age.
   pub record Well (b : Records S) : Type 0 where
     pub sound : kind.sound b.manager
-    -- the totals add up to the manager's age
     pub counted : b.asks + b.frees + b.steps ≡ (under b).age
-    -- which never passes the limit, for a manager that old refuses
-    pub unworn : (under b).age ≤ limit

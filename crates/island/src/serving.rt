@@ -2,10 +2,10 @@
 ghost use Rattle.history.specs.Histories.{GoesOn};
 ghost use Rattle.broker.specs.Reading.{records_of};
 
-use broker::{Broker, Grant};
-use manager::Manager;
-use programs::ask_unless_served;
-use roll::Roll;
+use broker::state::Broker;
+use history::Grant;
+use manager::interface::Manager;
+use roll::list::Roll;
 
 // More rounds than serving takes: each serves at least one site.
 const MOST_ROUNDS: usize = 200;
@@ -15,7 +15,7 @@ const MOST_STEPS: u64 = 10_000;
 
 // Goes on in rounds until every site has been served so often, or the roll is full.
 pub(crate) fn serve<M: Manager>(broker: &mut Broker<M>, roll: &mut Roll<'_, Grant>, turns: usize)
-    ensures goes_on_with_its_history { GoesOn M.Manager (records_of broker.old) (records_of broker.new) }
+    ensures goes_on { GoesOn M.Manager (records_of broker.old) (records_of broker.new) }
 {
     for _ in 0..MOST_ROUNDS {
         if all_served(broker, roll, turns) {
@@ -39,15 +39,29 @@ fn all_served<M: Manager>(broker: &Broker<M>, roll: &Roll<'_, Grant>, turns: usi
 
 // Asks for every site that is to be served again. One that waits or holds already refuses.
 fn ask_all<M: Manager>(broker: &mut Broker<M>, roll: &mut Roll<'_, Grant>, turns: usize)
-    ensures goes_on_with_its_history { GoesOn M.Manager (records_of broker.old) (records_of broker.new) }
+    ensures goes_on { GoesOn M.Manager (records_of broker.old) (records_of broker.new) }
 {
     for site in 0..broker.sites() {
-        ask_unless_served(broker, roll, site, turns);
+        ask_again(broker, roll, site, turns);
+    }
+}
+
+// Asks for a site unless it has been served so often.
+fn ask_again<M: Manager>(
+    broker: &mut Broker<M>,
+    roll: &mut Roll<'_, Grant>,
+    site: usize,
+    turns: usize,
+)
+    ensures goes_on { GoesOn M.Manager (records_of broker.old) (records_of broker.new) }
+{
+    if roll.count(site) < turns {
+        let _ = broker.ask(site, roll);
     }
 }
 
 fn free_holder<M: Manager>(broker: &mut Broker<M>)
-    ensures goes_on_with_its_history { GoesOn M.Manager (records_of broker.old) (records_of broker.new) }
+    ensures goes_on { GoesOn M.Manager (records_of broker.old) (records_of broker.new) }
 {
     if let Some(site) = broker.holder() {
         let _ = broker.free(site);

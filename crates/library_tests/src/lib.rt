@@ -1,14 +1,10 @@
 // Examples of the library's use, as tests: each is proved safe, and then run.
 #[cfg(test)]
-mod hand_over;
-#[cfg(test)]
 mod refusals;
 #[cfg(test)]
 mod ricart_agrawala_runs;
 #[cfg(test)]
 mod rolls;
-#[cfg(test)]
-mod runs;
 #[cfg(test)]
 mod sizes;
 #[cfg(test)]
@@ -17,5 +13,3 @@ mod suzuki_kasami_runs;
 mod ties;
 #[cfg(test)]
 mod wait_lists;
-#[cfg(test)]
-mod words;

@@ -1,15 +1,19 @@
 // The refusals of each call, in the order in which they are tried.
-use crate::runs::NO_GRANT;
-use broker::{Broker, Grant};
-use manager::{Manager, Refusal, Status};
-use roll::Roll;
-use suzuki_kasami::SuzukiKasami;
+use broker::state::Broker;
+use history::Grant;
+use manager::interface::Manager;
+use manager::refusal::Refusal;
+use manager::status::Status;
+use roll::list::Roll;
+use suzuki_kasami::state::SuzukiKasami;
+
+const NONE: Grant = Grant { site: 0, waited: 0 };
 
 #[test]
 fn an_ask_tries_the_site_then_its_status_then_the_roll(rt: HostRuntime) {
     let mut none: [Grant; 0] = [];
     let mut full = Roll::new(&mut none);
-    let mut memory = [NO_GRANT; 2];
+    let mut memory = [NONE; 2];
     let mut roll = Roll::new(&mut memory);
     let mut broker = Broker::new(SuzukiKasami::new(3));
     assert_eq!(rt; broker.ask(3, &mut full), Err(Refusal::NoSite));
@@ -34,7 +38,7 @@ fn a_free_tries_the_site_then_its_status(rt: HostRuntime) {
 fn a_step_tries_the_thing_then_the_roll(rt: HostRuntime) {
     let mut none: [Grant; 0] = [];
     let mut full = Roll::new(&mut none);
-    let mut memory = [NO_GRANT; 2];
+    let mut memory = [NONE; 2];
     let mut roll = Roll::new(&mut memory);
     let mut broker = Broker::new(SuzukiKasami::new(3));
     assert_eq!(rt; broker.step(0, &mut full), Err(Refusal::NoThing));
@@ -64,9 +68,5 @@ fn refusals_have_their_numbers(rt: HostRuntime) {
     assert_eq!(rt; Refusal::NoThing.number(), 5);
     assert_eq!(rt; Refusal::RollFull.number(), 6);
     assert_eq!(rt; Refusal::ShortWaitList.number(), 7);
-    assert_eq!(rt; Refusal::BadBook.number(), 8);
-    assert_eq!(rt; Refusal::NoBlock.number(), 9);
-    assert_eq!(rt; Refusal::BadLine.number(), 10);
     assert_eq!(rt; Refusal::LimitReached.number(), 11);
-    assert_eq!(rt; Refusal::ShortOutput.number(), 12);
 }

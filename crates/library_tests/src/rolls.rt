@@ -1,7 +1,7 @@
 // A roll over lent memory.
-use broker::Grant;
-use manager::Refusal;
-use roll::Roll;
+use history::Grant;
+use manager::refusal::Refusal;
+use roll::list::Roll;
 
 const FIRST: Grant = Grant { site: 3, waited: 7 };
 
@@ -13,7 +13,6 @@ fn a_roll_of_no_place_takes_nothing(rt: HostRuntime) {
     let mut roll = Roll::new(&mut memory);
     assert_eq!(rt; roll.room(), 0);
     assert_eq!(rt; roll.push(FIRST), Err(Refusal::RollFull));
-    assert!(rt; roll.is_empty());
     assert_eq!(rt; roll.len(), 0);
     assert_eq!(rt; roll.get(0), None);
     assert_eq!(rt; roll.count(3), 0);
@@ -26,7 +25,6 @@ fn a_roll_of_one_place_takes_one(rt: HostRuntime) {
     assert_eq!(rt; roll.get(0), None);
     assert_eq!(rt; roll.push(FIRST), Ok(()));
     assert_eq!(rt; roll.push(SECOND), Err(Refusal::RollFull));
-    assert!(rt; !roll.is_empty());
     assert_eq!(rt; roll.get(0), Some(FIRST));
     assert_eq!(rt; roll.get(1), None);
     assert_eq!(rt; roll.room(), 0);

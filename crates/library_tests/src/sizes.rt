@@ -1,9 +1,10 @@
 // How much memory the library takes: a controller has 64 KB in all.
-use broker::{Broker, Grant};
-use ricart_agrawala::RicartAgrawala;
+use broker::state::Broker;
+use history::Grant;
+use ricart_agrawala::state::RicartAgrawala;
 use std::mem::size_of;
-use suzuki_kasami::SuzukiKasami;
-use tie::Tie;
+use suzuki_kasami::state::SuzukiKasami;
+use tie::state::Tie;
 
 type Pair = Tie<SuzukiKasami, SuzukiKasami, SuzukiKasami>;
 

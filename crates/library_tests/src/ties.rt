@@ -1,17 +1,21 @@
 // Ties of islands, and ties of ties.
-use crate::runs::{NO_GRANT, ask_and_drain, free_and_drain};
-use broker::{Broker, Grant};
-use manager::{Manager, Refusal, Status};
-use ricart_agrawala::RicartAgrawala;
-use roll::Roll;
-use suzuki_kasami::SuzukiKasami;
-use tie::Tie;
+use broker::state::{Broker, DrainReport};
+use history::Grant;
+use manager::interface::Manager;
+use manager::refusal::Refusal;
+use manager::status::Status;
+use ricart_agrawala::state::RicartAgrawala;
+use roll::list::Roll;
+use suzuki_kasami::state::SuzukiKasami;
+use tie::state::Tie;
+
+const NONE: Grant = Grant { site: 0, waited: 0 };
 
 // Two islands of one site each, besides their gateways. The right one holds, so the left gateway has to fetch the resource
 // from the outer manager: its REQUEST, its move and the right gateway's come before anybody can be served.
 #[test]
 fn the_resource_comes_from_one_island_to_the_other(rt: HostRuntime) {
-    let mut memory = [NO_GRANT; 4];
+    let mut memory = [NONE; 4];
     let mut roll = Roll::new(&mut memory);
     let mut broker = Broker::new(Tie::new(
         SuzukiKasami::new(2),
@@ -20,9 +24,23 @@ fn the_resource_comes_from_one_island_to_the_other(rt: HostRuntime) {
     ));
     assert_eq!(rt; broker.toll(), 27);
     assert_eq!(rt; broker.holder(), Some(1));
-    ask_and_drain(&rt, &mut broker, &mut roll, 0, 5);
+    assert_eq!(rt; broker.ask(0, &mut roll), Ok(Status::Waiting));
+    assert_eq!(rt;
+        broker.drain(9999, &mut roll),
+        DrainReport {
+            steps: 5,
+            stopped: None,
+        }
+    );
     assert_eq!(rt; broker.called(1), Ok(true));
-    free_and_drain(&rt, &mut broker, &mut roll, 1, 5);
+    assert_eq!(rt; broker.free(1), Ok(()));
+    assert_eq!(rt;
+        broker.drain(9999, &mut roll),
+        DrainReport {
+            steps: 5,
+            stopped: None,
+        }
+    );
     assert_eq!(rt; broker.holder(), Some(0));
     assert_eq!(rt;
         roll.get(0),
@@ -36,7 +54,7 @@ fn the_resource_comes_from_one_island_to_the_other(rt: HostRuntime) {
 // The left island's sites come first, without its gateway, then the right island's.
 #[test]
 fn sites_are_counted_across_the_border(rt: HostRuntime) {
-    let mut memory = [NO_GRANT; 4];
+    let mut memory = [NONE; 4];
     let mut roll = Roll::new(&mut memory);
     let mut broker = Broker::new(Tie::new(
         SuzukiKasami::new(3),
@@ -57,7 +75,7 @@ fn sites_are_counted_across_the_border(rt: HostRuntime) {
 // Three pairs of islands of 16 sites have more than 64 sites, of which the first 64 are reachable.
 #[test]
 fn sixty_four_sites_are_reachable(rt: HostRuntime) {
-    let mut memory = [NO_GRANT; 1];
+    let mut memory = [NONE; 1];
     let mut roll = Roll::new(&mut memory);
     let two = Tie::new(pair(), pair(), RicartAgrawala::new(2));
     let mut broker = Broker::new(Tie::new(two, pair(), RicartAgrawala::new(2)));

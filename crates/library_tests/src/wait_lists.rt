@@ -1,13 +1,15 @@
 // The writing of the wait list, into lists one place too short, as long as the sites, and one place longer.
-use crate::runs::NO_GRANT;
-use broker::{Broker, Grant};
-use manager::{Manager, Refusal, Status};
-use roll::Roll;
-use suzuki_kasami::SuzukiKasami;
+use broker::state::Broker;
+use history::Grant;
+use manager::interface::Manager;
+use manager::refusal::Refusal;
+use manager::status::Status;
+use roll::list::Roll;
+use suzuki_kasami::state::SuzukiKasami;
 
 #[test]
 fn a_wait_list_wants_a_place_for_each_site(rt: HostRuntime) {
-    let mut memory = [NO_GRANT; 2];
+    let mut memory = [Grant { site: 0, waited: 0 }; 2];
     let mut roll = Roll::new(&mut memory);
     let mut broker = Broker::new(SuzukiKasami::new(3));
     assert_eq!(rt; broker.ask(1, &mut roll), Ok(Status::Waiting));

@@ -1,5 +1,5 @@
--- What the questions answer. Assumes nothing.
-use Rattle.std.specs.Prelude.{ℕ, zero, suc, min, Bool, cond, Some, None, Ok, Err, Option, Result}
+-- What the questions answer, and what a call that may be refused answers and leaves. Assumes nothing.
+use Rattle.std.specs.Prelude.{◌≡◌, ℕ, zero, suc, min, Bool, cond, Some, None, Ok, Err, Option, Result}
 use Rattle.manager.specs.Meaning.{Meaning, limit, is_holding}
 use Rattle.manager.specs.Refusals.{refused, site_order}
 use Rattle.manager.specs.declared.refusal.Refusal.{Refusal}
@@ -31,3 +31,10 @@ holder_shown m = first (λ i. is_holding (m.status i)) m.sites
 
 abbrev pub toll_shown : Meaning → ℕ
 toll_shown m = min m.toll limit
+
+-- A call that may be refused. Refused, it answers the refusal and leaves everything as found; carried out, it does what
+-- `done` says and gives its answer.
+pub record Call {S A : Type 0} (refusal : Option Refusal) (done : Type 0) (value : A) (before after : S) (result : Result A Refusal) : Type 0 where
+  pub answers : result ≡ answer refusal value
+  pub leaves : (r : Refusal) → refusal ≡ Some r → after ≡ before
+  pub does : refusal ≡ None → done

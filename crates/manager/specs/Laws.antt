@@ -1,15 +1,16 @@
 -- The laws of a manager: what is true of its meaning, and what its calls do to it. Assumes nothing.
 use Rattle.std.specs.Prelude.{◌≡◌, ℕ, ◌<◌, ◌≤◌, true, None, Option, ◌≢◌}
 use Rattle.manager.specs.Effects.{Parked, Asked, Freed, Stepped}
-use Rattle.manager.specs.Meaning.{Meaning, limit, most_sites}
+use Rattle.manager.specs.Meaning.{Meaning, limit}
 use Rattle.manager.specs.Refusals.{refused, site_order, ask_order, free_order, step_order}
 use Rattle.manager.specs.declared.status.Status.TheVariants.{Waiting, Holding}
 
 -- What holds of every value, sound or not, so that code over a manager is safe with no premise.
 pub record Bounded (m : Meaning) : Type 0 where
   pub fewest : 2 ≤ m.sites
-  pub most : m.sites ≤ most_sites
+  pub most : m.sites ≤ 64
   pub underway : m.underway ≤ limit
+  pub age : m.age ≤ limit
 
 -- What holds of every sound manager.
 pub record Lawful (m : Meaning) : Type 0 where

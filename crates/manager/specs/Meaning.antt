@@ -25,13 +25,6 @@ pub record Meaning : Type 0 where
 abbrev pub limit : ℕ
 limit = 10 ^ 15
 
--- The most sites of a manager, and of an island, a manager that is no tie of others.
-abbrev pub most_sites : ℕ
-most_sites = 64
-
-abbrev pub most_island_sites : ℕ
-most_island_sites = 16
-
 abbrev pub is_idle : Status → Bool
 is_idle Idle = true
 is_idle Waiting = false

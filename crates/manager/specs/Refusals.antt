@@ -1,8 +1,8 @@
 -- When a call is refused, in which order the refusals are tried, and their numbers. Assumes nothing.
-use Rattle.std.specs.Prelude.{ℕ, Bool, false, cond, not, ◌&&◌, List, [], ◌∷◌, Some, None, Option, ◌==◌, nat_le, nat_lt}
+use Rattle.std.specs.Prelude.{ℕ, Bool, cond, not, ◌&&◌, List, [], ◌∷◌, Some, None, Option, ◌==◌, nat_le, nat_lt}
 use Rattle.manager.specs.Meaning.{Meaning, limit, is_idle, is_holding}
 use Rattle.manager.specs.declared.refusal.Refusal.{Refusal}
-use Rattle.manager.specs.declared.refusal.Refusal.TheVariants.{NoSite, Worn, NotIdle, NotHolding, NoThing, RollFull, ShortWaitList, BadBook, NoBlock, BadLine, LimitReached, ShortOutput}
+use Rattle.manager.specs.declared.refusal.Refusal.TheVariants.{NoSite, Worn, NotIdle, NotHolding, NoThing, RollFull, ShortWaitList, LimitReached}
 
 abbrev pub number_of : Refusal → ℕ
 number_of NoSite = 1
@@ -12,15 +12,10 @@ number_of NotHolding = 4
 number_of NoThing = 5
 number_of RollFull = 6
 number_of ShortWaitList = 7
-number_of BadBook = 8
-number_of NoBlock = 9
-number_of BadLine = 10
 number_of LimitReached = 11
-number_of ShortOutput = 12
 
 -- Is the refusal due, of a call that names a site or a thing by its number, on a manager that means m? The room is what
--- the caller lent: free places in a roll, places in a wait list, or the steps that a drain may still take. No call on a
--- manager or a broker is refused as reading a run book or writing a line is.
+-- the caller lent: free places in a roll, places in a wait list, or the steps that a drain may still take.
 abbrev pub due : Refusal → Meaning → (number room : ℕ) → Bool
 due NoSite m number room = nat_le m.sites number
 due Worn m number room = nat_le limit m.age
@@ -29,11 +24,7 @@ due NotHolding m number room = not (is_holding (m.status number))
 due NoThing m number room = nat_le m.underway number
 due RollFull m number room = room == 0
 due ShortWaitList m number room = nat_lt room m.sites
-due BadBook m number room = false
-due NoBlock m number room = false
-due BadLine m number room = false
 due LimitReached m number room = nat_lt 0 m.underway && room == 0
-due ShortOutput m number room = false
 
 -- The first of the listed refusals that is due.
 abbrev pub tried : List Refusal → Meaning → (number room : ℕ) → Option Refusal

@@ -4,13 +4,15 @@ ghost use Rattle.manager.specs.Answers.{refuse_if};
 ghost use Rattle.manager.specs.Meaning.{limit, is_idle, is_holding};
 ghost use Rattle.manager.specs.declared.refusal.Refusal.TheVariants.{NoSite, Worn, NotIdle, NotHolding, NoThing};
 
-use crate::limits::LIMIT;
 use crate::refusal::Refusal;
 use crate::status::Status;
 
+// The age at which a manager is worn out, the most things under way that are counted, and the largest toll that is told.
+pub const LIMIT: u64 = 1_000_000_000_000_000;
+
 // Is the site one of as many as there are?
 pub fn check_site(site: usize, sites: usize) -> Result<(), Refusal>
-    ensures refuses_past_last_site { result ≡ refuse_if (nat_le sites site) NoSite }
+    ensures { result ≡ refuse_if (nat_le sites site) NoSite }
 {
     if site >= sites {
         return Err(Refusal::NoSite);
@@ -19,7 +21,7 @@ pub fn check_site(site: usize, sites: usize) -> Result<(), Refusal>
 }
 
 pub fn check_age(age: u64) -> Result<(), Refusal>
-    ensures refuses_when_worn { result ≡ refuse_if (nat_le limit age) Worn }
+    ensures { result ≡ refuse_if (nat_le limit age) Worn }
 {
     if age >= LIMIT {
         return Err(Refusal::Worn);
@@ -29,7 +31,7 @@ pub fn check_age(age: u64) -> Result<(), Refusal>
 
 // An ask is for a site that is idle,
 pub fn check_idle(status: Status) -> Result<(), Refusal>
-    ensures refuses_unless_idle { result ≡ refuse_if (not (is_idle status)) NotIdle }
+    ensures { result ≡ refuse_if (not (is_idle status)) NotIdle }
 {
     if !status.is_idle() {
         return Err(Refusal::NotIdle);
@@ -39,7 +41,7 @@ pub fn check_idle(status: Status) -> Result<(), Refusal>
 
 // and a free for one that holds.
 pub fn check_holding(status: Status) -> Result<(), Refusal>
-    ensures refuses_unless_holding { result ≡ refuse_if (not (is_holding status)) NotHolding }
+    ensures { result ≡ refuse_if (not (is_holding status)) NotHolding }
 {
     if !status.is_holding() {
         return Err(Refusal::NotHolding);
@@ -49,7 +51,7 @@ pub fn check_holding(status: Status) -> Result<(), Refusal>
 
 // A step carries out thing number k of those under way.
 pub fn check_thing(k: u64, underway: u64) -> Result<(), Refusal>
-    ensures refuses_past_last_thing { result ≡ refuse_if (nat_le underway k) NoThing }
+    ensures { result ≡ refuse_if (nat_le underway k) NoThing }
 {
     if k >= underway {
         return Err(Refusal::NoThing);

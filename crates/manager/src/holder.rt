@@ -8,7 +8,7 @@ use crate::status::Status;
 
 // The first of as many sites as there are that holds, if one does.
 pub fn first_holding(status: &[Status], sites: usize) -> Option<usize>
-    ensures finds_the_first_that_holds { result ≡ first (λ i. is_holding (slice_index_or status.now i Idle)) sites }
+    ensures { result ≡ first (λ i. is_holding (slice_index_or status.now i Idle)) sites }
 {
     for site in 0..sites {
         if holds_at(status, site) {
@@ -20,7 +20,7 @@ pub fn first_holding(status: &[Status], sites: usize) -> Option<usize>
 
 // Does the site hold? One with no status does not.
 fn holds_at(status: &[Status], site: usize) -> bool
-    ensures tells_whether_it_holds { result ≡ is_holding (slice_index_or status.now site Idle) }
+    ensures { result ≡ is_holding (slice_index_or status.now site Idle) }
 {
     match status.get(site) {
         Some(status) => status.is_holding(),

@@ -1,10 +1,6 @@
 // Why a call was refused. specs/Refusals.antt says when each is due and which number it has.
-ghost use Rattle.std.specs.Prelude.{◌≡◌, Some};
+ghost use Rattle.std.specs.Prelude.{◌≡◌};
 ghost use Rattle.manager.specs.Refusals.{number_of};
-ghost use Rattle.manager.specs.Words.{refusal_in_words};
-
-use std::error::Error;
-use std::fmt;
 
 #[derive(Clone, Copy, PartialEq, Eq, Debug)]
 pub enum Refusal {
@@ -15,17 +11,13 @@ pub enum Refusal {
     NoThing,
     RollFull,
     ShortWaitList,
-    BadBook,
-    NoBlock,
-    BadLine,
     LimitReached,
-    ShortOutput,
 }
 
 impl Refusal {
     // The number by which printed records name the refusal.
     pub fn number(self) -> u8
-        ensures gives_its_number { result ≡ number_of self }
+        ensures { result ≡ number_of self }
     {
         match self {
             Refusal::NoSite => 1,
@@ -35,41 +27,7 @@ impl Refusal {
             Refusal::NoThing => 5,
             Refusal::RollFull => 6,
             Refusal::ShortWaitList => 7,
-            Refusal::BadBook => 8,
-            Refusal::NoBlock => 9,
-            Refusal::BadLine => 10,
             Refusal::LimitReached => 11,
-            Refusal::ShortOutput => 12,
-        }
-    }
-
-    // What was refused, or why.
-    pub fn words(self) -> &'static str
-        ensures says_it_in_words { result.now ≡ refusal_in_words self }
-    {
-        match self {
-            Refusal::NoSite => "there is no site of that number",
-            Refusal::Worn => "the manager is worn out",
-            Refusal::NotIdle => "the site is not idle",
-            Refusal::NotHolding => "the site does not hold",
-            Refusal::NoThing => "no thing of that number is under way",
-            Refusal::RollFull => "the roll has no free place",
-            Refusal::ShortWaitList => "the wait list has fewer places than there are sites",
-            Refusal::BadBook => "the run book breaks its form",
-            Refusal::NoBlock => "the run book has no block of that number",
-            Refusal::BadLine => "the line breaks its form",
-            Refusal::LimitReached => "the drain is at its limit with something under way",
-            Refusal::ShortOutput => "the output is shorter than the line to be written",
         }
     }
 }
-
-impl fmt::Display for Refusal {
-    ghost output = { λ r. Some (refusal_in_words r) };
-
-    fn fmt<W: fmt::Write>(&self, f: &mut fmt::Formatter<W>) -> fmt::Result {
-        f.pad(self.words())
-    }
-}
-
-impl Error for Refusal {}

@@ -3,14 +3,15 @@
 mod schedule;
 mod serving;
 
-use broker::{Broker, Grant};
-use programs::print_run;
-use ricart_agrawala::RicartAgrawala;
-use roll::Roll;
+use broker::state::Broker;
+use history::Grant;
+use manager::interface::Manager;
+use ricart_agrawala::state::RicartAgrawala;
+use roll::list::Roll;
 use schedule::Schedule;
 use serving::serve;
-use suzuki_kasami::SuzukiKasami;
-use tie::Tie;
+use suzuki_kasami::state::SuzukiKasami;
+use tie::state::Tie;
 
 const SEED: u64 = 2026;
 
@@ -43,7 +44,31 @@ fn run(rt: &HostRuntime) -> anyhow::Result<()> {
     let mut roll = Roll::new(&mut memory);
     let mut schedule = Schedule::new(SEED);
     serve(&mut broker, &mut roll, &mut schedule);
-    print_run(rt, &broker, &roll)?;
+    print_grants(rt, &roll)?;
+    print_totals(rt, &broker)
+}
+
+fn print_grants(rt: &HostRuntime, roll: &Roll<'_, Grant>) -> anyhow::Result<()> {
+    for place in 0..roll.len() {
+        if let Some(grant) = roll.get(place) {
+            let site = grant.site;
+            let waited = grant.waited;
+            println!(rt; "site {site} holds after {waited} steps")?;
+        }
+    }
+    Ok(())
+}
+
+fn print_totals<M: Manager>(rt: &HostRuntime, broker: &Broker<M>) -> anyhow::Result<()> {
+    let kind = M::KIND;
+    let sites = broker.sites();
+    let asks = broker.asks();
+    let frees = broker.frees();
+    let steps = broker.steps();
+    let toll = broker.toll();
+    let bound = toll.saturating_mul(asks.saturating_add(frees).saturating_add(1));
+    println!(rt; "kind {kind}, {sites} sites: asks {asks}, frees {frees}, steps {steps}")?;
+    println!(rt; "toll {toll}: at most {bound} steps")?;
     Ok(())
 }
 

@@ -4,10 +4,10 @@ ghost use Rattle.history.specs.Histories.{GoesOn};
 ghost use Rattle.broker.specs.Reading.{records_of};
 
 use crate::schedule::Schedule;
-use broker::{Broker, Grant};
-use manager::Manager;
-use programs::ask_unless_served;
-use roll::Roll;
+use broker::state::Broker;
+use history::Grant;
+use manager::interface::Manager;
+use roll::list::Roll;
 
 // More turns than serving 64 sites takes.
 const MOST_TURNS: u64 = 200_000;
@@ -21,7 +21,7 @@ pub(crate) fn serve<M: Manager>(
     roll: &mut Roll<'_, Grant>,
     schedule: &mut Schedule,
 )
-    ensures goes_on_with_its_history { GoesOn M.Manager (records_of broker.old) (records_of broker.new) }
+    ensures goes_on { GoesOn M.Manager (records_of broker.old) (records_of broker.new) }
 {
     ask_all(broker, roll);
     for _ in 0..MOST_TURNS {
@@ -34,7 +34,7 @@ pub(crate) fn serve<M: Manager>(
 
 // Asks for every site. The one that holds refuses.
 fn ask_all<M: Manager>(broker: &mut Broker<M>, roll: &mut Roll<'_, Grant>)
-    ensures goes_on_with_its_history { GoesOn M.Manager (records_of broker.old) (records_of broker.new) }
+    ensures goes_on { GoesOn M.Manager (records_of broker.old) (records_of broker.new) }
 {
     for site in 0..broker.sites() {
         let _ = broker.ask(site, roll);
@@ -43,7 +43,7 @@ fn ask_all<M: Manager>(broker: &mut Broker<M>, roll: &mut Roll<'_, Grant>)
 
 // Frees the holder, or delivers one of the things under way.
 fn take_turn<M: Manager>(broker: &mut Broker<M>, roll: &mut Roll<'_, Grant>, drawn: u64)
-    ensures goes_on_with_its_history { GoesOn M.Manager (records_of broker.old) (records_of broker.new) }
+    ensures goes_on { GoesOn M.Manager (records_of broker.old) (records_of broker.new) }
 {
     let underway = broker.underway();
     if underway == 0 || drawn % HOLD == 0 {
@@ -55,10 +55,18 @@ fn take_turn<M: Manager>(broker: &mut Broker<M>, roll: &mut Roll<'_, Grant>, dra
 
 // Frees the holder. One that has not been served yet, for it held from the start, asks in its turn.
 fn free_holder<M: Manager>(broker: &mut Broker<M>, roll: &mut Roll<'_, Grant>)
-    ensures goes_on_with_its_history { GoesOn M.Manager (records_of broker.old) (records_of broker.new) }
+    ensures goes_on { GoesOn M.Manager (records_of broker.old) (records_of broker.new) }
 {
     if let Some(site) = broker.holder() {
         let _ = broker.free(site);
-        ask_unless_served(broker, roll, site, 1);
+        ask_unserved(broker, roll, site);
+    }
+}
+
+fn ask_unserved<M: Manager>(broker: &mut Broker<M>, roll: &mut Roll<'_, Grant>, site: usize)
+    ensures goes_on { GoesOn M.Manager (records_of broker.old) (records_of broker.new) }
+{
+    if roll.count(site) == 0 {
+        let _ = broker.ask(site, roll);
     }
 }

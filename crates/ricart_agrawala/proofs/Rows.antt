@@ -7,7 +7,10 @@ use Rattle.counting.proofs.Arrays.{read_row}
 use Rattle.ricart_rules.specs.Rules.{with_others}
 use Rattle.ricart_rules.specs.declared.Stage.{Stage}
 use Rattle.ricart_rules.specs.declared.Stage.TheVariants.{Unasked}
-use Rattle.ricart_agrawala.specs.Rows.{Written}
+
+-- A row, so far as it is written: one stage for each other site below n.
+abbrev pub Written : (old row : List Stage) (n i : ℕ) → Stage → Type 0
+Written old row n i x = (j : ℕ) → get_or row j Unasked ≡ cond (ltb j n && not (eqb j i)) x (get_or old j Unasked)
 
 module _ (old row : List Stage) (n i : ℕ) (x : Stage) (so_far : Written old row n i x) where
   kept : (j : ℕ) (y : Stage) → (j ≡ n → ⊥) → cond (ltb j n && not (eqb j i)) x y ≡ cond (ltb j (n + 1) && not (eqb j i)) x y

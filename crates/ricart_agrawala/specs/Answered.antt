@@ -1,6 +1,5 @@
 -- A free's answers to the sites that were deferred, so far as they are sent. Assumes nothing.
 use Rattle.std.specs.Prelude.{ℕ, cond, ◌&&◌, ◌==◌, nat_lt}
-use Rattle.manager.specs.Meaning.{most_island_sites}
 use Rattle.ricart_rules.specs.State.{State, is_deferred}
 use Rattle.ricart_rules.specs.declared.Stage.TheVariants.{Replied}
 
@@ -14,7 +13,3 @@ answered_below s i n = record {
   stage = λ a b. cond (nat_lt a n && (b == i && is_deferred (s.stage a b))) Replied (s.stage a b);
   age = s.age;
 }
-
--- It has sent all: past the last site nobody is deferred.
-abbrev pub all_answered : State → (i : ℕ) → State
-all_answered s i = answered_below s i most_island_sites

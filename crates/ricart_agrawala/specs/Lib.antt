@@ -2,4 +2,3 @@ pub mod Answered
 pub mod Found
 pub mod Reading
 pub mod Receiving
-pub mod Rows

@@ -1,7 +1,6 @@
 -- The state of the algorithm that a manager stores. Assumes nothing.
-use Rattle.std.specs.Prelude.{◌≡◌, ℕ, [], slice_index_or}
+use Rattle.std.specs.Prelude.{[], slice_index_or}
 use Rattle.manager.specs.declared.status.Status.TheVariants.{Idle}
-use Rattle.ricart_rules.specs.Invariant.{Sound}
 use Rattle.ricart_rules.specs.State.{State}
 use Rattle.ricart_rules.specs.declared.Stage.TheVariants.{Unasked}
 use Rattle.ricart_agrawala.specs.declared.state.RicartAgrawala.{RicartAgrawala}
@@ -15,7 +14,3 @@ state_of m = record {
   stage = λ i j. slice_index_or (slice_index_or m.stages i []) j Unasked;
   age = m.age;
 }
-
--- Where the state before is sound, a call for site i leads to the state after by the rule.
-abbrev pub Follows : (rule : State → ℕ → State) (before : RicartAgrawala) (i : ℕ) (after : RicartAgrawala) → Type 0
-Follows rule before i after = Sound (state_of before) → state_of after ≡ rule (state_of before) i

@@ -1,19 +1,22 @@
--- What a receiver does: of a REQUEST it keeps the higher number, and a REPLY comes in two moves: it is noted, and then the
--- receiver may hold. Assumes nothing.
-use Rattle.std.specs.Prelude.{ℕ, max, Bool, not, ◌&&◌}
+-- The coming of a REPLY in two moves: it is noted, and then the receiver may hold. Assumes nothing.
+use Rattle.std.specs.Prelude.{ℕ, ◌+◌, Bool, not, ◌&&◌}
 use Rattle.counting.specs.Sums.{upd}
+use Rattle.counting.specs.Tables.{upd2}
 use Rattle.manager.specs.Meaning.{is_waiting}
 use Rattle.manager.specs.declared.status.Status.TheVariants.{Holding}
-use Rattle.ricart_rules.specs.Rules.{after_reply}
 use Rattle.ricart_rules.specs.State.{State, lacks}
+use Rattle.ricart_rules.specs.declared.Stage.TheVariants.{Received}
 
--- The highest number that b knows once the REQUEST of a has come.
-abbrev pub raised : State → (a b : ℕ) → ℕ
-raised s a b = max (s.highest b) (s.number a)
-
--- The REPLY of a has come to b, whose status is as it was.
+-- The REPLY of a has come to b.
 abbrev pub noted : State → (a b : ℕ) → State
-noted s a b = after_reply s a b s.status
+noted s a b = record {
+  sites = s.sites;
+  status = s.status;
+  highest = s.highest;
+  number = s.number;
+  stage = upd2 s.stage b a Received;
+  age = s.age + 1;
+}
 
 -- Site i waits, and has every REPLY.
 abbrev pub is_served : State → ℕ → Bool

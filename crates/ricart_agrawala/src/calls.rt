@@ -1,10 +1,12 @@
 // The manager as the interface has it.
 ghost use Rattle.std.specs.Prelude.{◌≡◌};
+ghost use Rattle.std.proofs.Common.{sym, subst};
 ghost use Rattle.ricart_rules.specs.Invariant.{Sound};
 ghost use Rattle.ricart_rules.specs.Reading.{meaning_of};
 ghost use Rattle.ricart_rules.specs.Rules.{parked, asked, freed, Delivered};
 ghost use Rattle.ricart_agrawala.specs.Reading.{state_of};
-ghost use Rattle.manager.proofs.Ruled.{laws_of_rules};
+ghost use Rattle.manager.specs.Effects.{Parked, Asked, Freed};
+ghost use Rattle.manager.proofs.Accepted.{accepted_site, accepted_ask, accepted_free};
 ghost use Rattle.ricart_rules.proofs.Ask.{ask_lawful};
 ghost use Rattle.ricart_rules.proofs.Free.{free_lawful};
 ghost use Rattle.ricart_rules.proofs.Lawful.{lawful, bounded};
@@ -13,7 +15,10 @@ ghost use Rattle.ricart_rules.proofs.Step.{step_lawful};
 
 use crate::state::RicartAgrawala;
 use manager::checks::{check_age, check_holding, check_idle, check_site, check_thing};
-use manager::{Manager, Refusal, Status, first_holding};
+use manager::holder::first_holding;
+use manager::interface::Manager;
+use manager::refusal::Refusal;
+use manager::status::Status;
 
 impl Manager for RicartAgrawala {
     const KIND: char = 'R';
@@ -30,7 +35,22 @@ impl Manager for RicartAgrawala {
 
     ghost steps = { λ m k g n. Delivered (state_of m) k g (state_of n) };
 
-    ghost laws = { laws_of_rules state_of meaning_of Sound parked asked freed Delivered (λ m. bounded (state_of m) m.fewest m.most) lawful (λ m g. park_lawful (state_of m) g m.fewest m.most) ask_lawful free_lawful step_lawful };
+    ghost laws = { record {
+      bounded = λ m. bounded (state_of m) m.fewest m.most m.young;
+      lawful = λ m sound. lawful (state_of m) sound;
+      parking = λ m n g accepted parks.
+          let s = state_of m in
+          subst (λ t. Sound t × Parked (meaning_of s) g (meaning_of t)) (sym parks) (park_lawful s g m.fewest m.most (accepted_site (meaning_of s) g accepted));
+      asking = λ m n i sound accepted asks.
+          let s = state_of m in
+          let known = accepted_ask (meaning_of s) i accepted in
+          subst (λ t. Sound t × Asked (meaning_of s) i (meaning_of t)) (sym asks) (ask_lawful s i sound known.0 known.2);
+      freeing = λ m n i sound accepted frees.
+          let s = state_of m in
+          let known = accepted_free (meaning_of s) i accepted in
+          subst (λ t. Sound t × Freed (meaning_of s) i (meaning_of t)) (sym frees) (free_lawful s i sound known.0 known.2);
+      stepping = λ m n k grant sound accepted steps. step_lawful (state_of m) k grant (state_of n) sound steps;
+    } };
 
     fn sites(&self) -> usize {
         self.sites

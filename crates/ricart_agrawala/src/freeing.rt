@@ -1,19 +1,19 @@
 // What a free does.
 ghost use Rattle.std.specs.Prelude.{◌≡◌, ◌<◌, if◌then◌else◌};
-ghost use Rattle.manager.specs.Meaning.{limit, most_island_sites};
+ghost use Rattle.manager.specs.Meaning.{limit};
 ghost use Rattle.ricart_rules.specs.Rules.{freed};
 ghost use Rattle.ricart_rules.specs.State.{is_deferred};
 ghost use Rattle.ricart_rules.specs.declared.Stage.TheVariants.{Replied};
-ghost use Rattle.ricart_agrawala.specs.Answered.{all_answered};
+ghost use Rattle.ricart_agrawala.specs.Answered.{answered_below};
 ghost use Rattle.ricart_agrawala.specs.Reading.{state_of};
 
 use crate::state::RicartAgrawala;
-use manager::{MOST_ISLAND_SITES, Status};
+use manager::status::Status;
 use ricart_rules::Stage;
 
 // A deferred answer is given.
 fn answered(stage: Stage) -> Stage
-    ensures answers_what_was_deferred { result ≡ (if is_deferred stage then Replied else stage) }
+    ensures { result ≡ (if is_deferred stage then Replied else stage) }
 {
     match stage {
         Stage::Deferred => Stage::Replied,
@@ -24,21 +24,21 @@ fn answered(stage: Stage) -> Stage
 impl RicartAgrawala {
     // Sends a REPLY to each site that the site deferred, and ends its own request.
     pub(crate) fn release(&mut self, site: usize)
-        requires { (site < most_island_sites) × (self.old.age < limit) }
-        ensures frees_by_the_rule { state_of self.new ≡ freed (state_of self.old) site }
+        requires { (site < 16) × (self.old.age < limit) }
+        ensures { state_of self.new ≡ freed (state_of self.old) site }
     {
         self.answer_deferred(site);
-        self.stages[site] = [Stage::Unasked; MOST_ISLAND_SITES];
+        self.stages[site] = [Stage::Unasked; 16];
         self.status[site] = Status::Idle;
         self.age += 1;
     }
 
-    // Sends the REPLYs that the site owes. Past the last site nobody is deferred, so that all rows may be gone through.
+    // Sends the REPLYs that the site owes. Past the last site nobody is deferred, so that all 16 rows may be gone through.
     fn answer_deferred(&mut self, site: usize)
-        requires { site < most_island_sites }
-        ensures answers_all_deferred { state_of self.new ≡ all_answered (state_of self.old) site }
+        requires { site < 16 }
+        ensures { state_of self.new ≡ answered_below (state_of self.old) site 16 }
     {
-        for other in 0..MOST_ISLAND_SITES {
+        for other in 0..16 {
             self.stages[other][site] = answered(self.stages[other][site]);
         }
     }

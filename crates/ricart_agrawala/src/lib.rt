@@ -1,12 +1,10 @@
 // Ricart and Agrawala's manager, of 2 to 16 sites: one that wants the resource sends a stamped REQUEST to all others, and
 // holds once each of them has sent a REPLY.
 mod asking;
-mod calls;
+pub mod calls;
 mod freeing;
 mod making;
 mod messages;
 mod questions;
-mod state;
+pub mod state;
 mod stepping;
-
-pub use state::RicartAgrawala;

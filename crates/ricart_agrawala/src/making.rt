@@ -1,39 +1,38 @@
 // How a manager is made, and how it begins anew.
 ghost use Rattle.std.specs.Prelude.{◌≡◌, ◌<◌, ◌≤◌};
-ghost use Rattle.manager.specs.Meaning.{most_island_sites};
 ghost use Rattle.ricart_rules.specs.Invariant.{Sound};
 ghost use Rattle.ricart_rules.specs.Rules.{fresh, made};
 ghost use Rattle.ricart_agrawala.specs.Reading.{state_of};
 
 use crate::messages::with_others;
 use crate::state::RicartAgrawala;
-use manager::{MOST_ISLAND_SITES, Status};
+use manager::status::Status;
 use ricart_rules::Stage;
 
 impl RicartAgrawala {
     // A manager of as many sites as fit, parked at the last of them: fewer than 2 make 2, more than 16 make 16.
     pub fn new(sites: usize) -> RicartAgrawala
-        ensures is_parked_at_its_last_site { state_of result ≡ made sites }
-        ensures is_sound { Sound (state_of result) }
+        ensures state { state_of result ≡ made sites }
+        ensures sound { Sound (state_of result) }
     {
-        let sites = sites.clamp(2, MOST_ISLAND_SITES);
+        let sites = sites.clamp(2, 16);
         RicartAgrawala::parked(sites, sites - 1)
     }
 
     // One site holds and has every REPLY; all numbers are 1 and nothing is under way.
     pub(crate) fn parked(sites: usize, site: usize) -> RicartAgrawala
-        requires { (2 ≤ sites) × ((sites ≤ most_island_sites) × (site < sites)) }
-        ensures is_parked_at_site { state_of result ≡ fresh sites site }
+        requires { (2 ≤ sites) × ((sites ≤ 16) × (site < sites)) }
+        ensures { state_of result ≡ fresh sites site }
     {
-        let mut status = [Status::Idle; MOST_ISLAND_SITES];
+        let mut status = [Status::Idle; 16];
         status[site] = Status::Holding;
-        let mut stages = [[Stage::Unasked; MOST_ISLAND_SITES]; MOST_ISLAND_SITES];
+        let mut stages = [[Stage::Unasked; 16]; 16];
         stages[site] = with_others(stages[site], sites, site, Stage::Received);
         RicartAgrawala {
             sites,
             status,
-            highest: [1; MOST_ISLAND_SITES],
-            number: [1; MOST_ISLAND_SITES],
+            highest: [1; 16],
+            number: [1; 16],
             stages,
             age: 0,
         }

@@ -1,14 +1,13 @@
 // The messages under way: how REQUESTs are sent, and how messages are counted and found.
-ghost use Rattle.std.specs.Prelude.{◌≡◌, ◌*◌, ◌<◌, ◌≤◌};
+ghost use Rattle.std.specs.Prelude.{◌≡◌, ℕ, ◌<◌, ◌≤◌, not, ◌&&◌, if◌then◌else◌, ◌==◌, nat_lt, slice_index_or};
 ghost use Rattle.counting.specs.Tables.{row, total};
-ghost use Rattle.manager.specs.Meaning.{most_island_sites};
 ghost use Rattle.ricart_rules.specs.Rules.{requests, replies, messages};
-ghost use Rattle.ricart_agrawala.specs.Found.{Found, picked};
+ghost use Rattle.ricart_rules.specs.declared.Stage.TheVariants.{Unasked};
+ghost use Rattle.ricart_agrawala.specs.Found.{Found};
 ghost use Rattle.ricart_agrawala.specs.Reading.{state_of};
-ghost use Rattle.ricart_agrawala.specs.Rows.{Written};
+ghost use Rattle.ricart_agrawala.specs.declared.messages.Message.TheVariants.{Request, Reply};
 
 use crate::state::RicartAgrawala;
-use manager::MOST_ISLAND_SITES;
 use ricart_rules::Stage;
 
 #[derive(Clone, Copy)]
@@ -19,13 +18,13 @@ pub(crate) enum Message {
 
 // The stages of a site's request, but with this stage for each other of n sites.
 pub(crate) fn with_others(
-    mut stages: [Stage; MOST_ISLAND_SITES],
+    mut stages: [Stage; 16],
     n: usize,
     site: usize,
     stage: Stage,
-) -> [Stage; MOST_ISLAND_SITES]
-    requires { n ≤ most_island_sites }
-    ensures writes_it_for_all_others { Written stages result n site stage }
+) -> [Stage; 16]
+    requires { n ≤ 16 }
+    ensures { (j : ℕ) → slice_index_or result j Unasked ≡ (if nat_lt j n && not (j == site) then stage else slice_index_or stages j Unasked) }
 {
     for other in 0..n {
         if other != site {
@@ -38,9 +37,8 @@ pub(crate) fn with_others(
 impl RicartAgrawala {
     // How many REQUESTs are under way from one site to another: one at most.
     fn requests(&self, sender: usize, receiver: usize) -> u64
-        requires { (sender < most_island_sites) × (receiver < most_island_sites) }
-        ensures counts_the_requests { result ≡ requests (state_of self.now) sender receiver }
-        ensures counts_one_at_most { result ≤ 1 }
+        requires { (sender < 16) × (receiver < 16) }
+        ensures { (result ≡ requests (state_of self.now) sender receiver) × (result ≤ 1) }
     {
         if self.stages[sender][receiver] == Stage::Requested {
             1
@@ -51,9 +49,8 @@ impl RicartAgrawala {
 
     // How many REPLYs are, one at most,
     fn replies(&self, sender: usize, receiver: usize) -> u64
-        requires { (sender < most_island_sites) × (receiver < most_island_sites) }
-        ensures counts_the_replies { result ≡ replies (state_of self.now) sender receiver }
-        ensures counts_one_at_most { result ≤ 1 }
+        requires { (sender < 16) × (receiver < 16) }
+        ensures { (result ≡ replies (state_of self.now) sender receiver) × (result ≤ 1) }
     {
         if self.stages[receiver][sender] == Stage::Replied {
             1
@@ -64,18 +61,16 @@ impl RicartAgrawala {
 
     // and how many messages.
     fn sent(&self, sender: usize, receiver: usize) -> u64
-        requires { (sender < most_island_sites) × (receiver < most_island_sites) }
-        ensures counts_the_messages { result ≡ messages (state_of self.now) sender receiver }
-        ensures counts_two_at_most { result ≤ 2 }
+        requires { (sender < 16) × (receiver < 16) }
+        ensures { (result ≡ messages (state_of self.now) sender receiver) × (result ≤ 2) }
     {
         self.requests(sender, receiver) + self.replies(sender, receiver)
     }
 
     // How many messages are under way from a site.
     fn sent_by(&self, sender: usize) -> u64
-        requires { sender < most_island_sites }
-        ensures counts_the_messages_of_site { result ≡ row (messages (state_of self.now)) self.now.sites sender }
-        ensures counts_two_to_a_site_at_most { result ≤ 2 * most_island_sites }
+        requires { sender < 16 }
+        ensures { (result ≡ row (messages (state_of self.now)) self.now.sites sender) × (result ≤ 32) }
     {
         let mut count = 0;
         for receiver in 0..self.sites {
@@ -86,7 +81,7 @@ impl RicartAgrawala {
 
     // How many messages are under way.
     pub(crate) fn messages(&self) -> u64
-        ensures counts_all_messages { result ≡ total (messages (state_of self.now)) self.now.sites }
+        ensures { result ≡ total (messages (state_of self.now)) self.now.sites }
     {
         let mut count = 0;
         for sender in 0..self.sites {
@@ -98,7 +93,7 @@ impl RicartAgrawala {
     // The message that has k before it, by sender and then by receiver.
     pub(crate) fn find(&self, k: u64) -> Message
         requires { k < total (messages (state_of self.now)) self.now.sites }
-        ensures finds_the_one_after_k_others { Found (state_of self.now) k result }
+        ensures { Found (state_of self.now) k result }
     {
         let mut left = k;
         for sender in 0..self.sites {
@@ -115,8 +110,8 @@ impl RicartAgrawala {
 
     // Of the messages from one site to another, the one that has k before it: the REQUEST comes before the REPLY.
     fn pick(&self, k: u64, sender: usize, receiver: usize) -> Message
-        requires { (sender < most_island_sites) × (receiver < most_island_sites) }
-        ensures picks_the_one_after_k_others { result ≡ picked (state_of self.now) k sender receiver }
+        requires { (sender < 16) × (receiver < 16) }
+        ensures { result ≡ (if nat_lt k (requests (state_of self.now) sender receiver) then Request sender receiver else Reply sender receiver) }
     {
         if k < self.requests(sender, receiver) {
             Message::Request { sender, receiver }

@@ -1,36 +1,36 @@
 // What a manager tells of itself, and what its sites know of each other.
-ghost use Rattle.std.specs.Prelude.{◌≡◌, ◌<◌};
-ghost use Rattle.manager.specs.Meaning.{most_island_sites};
-ghost use Rattle.ricart_rules.specs.Reading.{has_deferred, is_called};
+ghost use Rattle.std.specs.Prelude.{◌≡◌, ◌<◌, not, ◌&&◌, ◌==◌};
+ghost use Rattle.counting.specs.Tests.{any};
+ghost use Rattle.ricart_rules.specs.Reading.{is_called};
 ghost use Rattle.ricart_rules.specs.Rules.{defers};
-ghost use Rattle.ricart_rules.specs.State.{earlier, awaits, lacks, is_deferred};
+ghost use Rattle.ricart_rules.specs.State.{earlier, lacks, is_deferred, is_received};
 ghost use Rattle.ricart_agrawala.specs.Reading.{state_of};
 
 use crate::state::RicartAgrawala;
-use manager::Status;
+use manager::status::Status;
 use ricart_rules::Stage;
 
 impl RicartAgrawala {
     // The highest number that the site has received.
     pub(crate) fn highest_at(&self, site: usize) -> u64
-        requires { site < most_island_sites }
-        ensures is_the_highest_received { result ≡ (state_of self.now).highest site }
+        requires { site < 16 }
+        ensures { result ≡ (state_of self.now).highest site }
     {
         self.highest[site]
     }
 
     // The number in the site's stamp.
     pub(crate) fn number_of(&self, site: usize) -> u64
-        requires { site < most_island_sites }
-        ensures is_the_number_of_its_stamp { result ≡ (state_of self.now).number site }
+        requires { site < 16 }
+        ensures { result ≡ (state_of self.now).number site }
     {
         self.number[site]
     }
 
     // Is the site's stamp earlier than the other's? Equal numbers go by the site.
     fn is_earlier(&self, site: usize, other: usize) -> bool
-        requires { (site < most_island_sites) × (other < most_island_sites) }
-        ensures tells_whether_earlier { result ≡ earlier (state_of self.now) site other }
+        requires { (site < 16) × (other < 16) }
+        ensures { result ≡ earlier (state_of self.now) site other }
     {
         let number = self.number_of(site);
         let rival = self.number_of(other);
@@ -39,8 +39,8 @@ impl RicartAgrawala {
 
     // Does the site, with the other's REQUEST before it, defer the answer?
     pub(crate) fn defers(&self, site: usize, other: usize) -> bool
-        requires { (site < most_island_sites) × (other < most_island_sites) }
-        ensures tells_whether_it_defers { result ≡ defers (state_of self.now) site other }
+        requires { (site < 16) × (other < 16) }
+        ensures { result ≡ defers (state_of self.now) site other }
     {
         match self.status[site] {
             Status::Idle => false,
@@ -51,16 +51,16 @@ impl RicartAgrawala {
 
     // Is the other's REPLY to the site yet to come?
     fn awaits(&self, site: usize, other: usize) -> bool
-        requires { (site < most_island_sites) × (other < most_island_sites) }
-        ensures tells_whether_it_is_to_come { result ≡ awaits site ((state_of self.now).stage site) other }
+        requires { (site < 16) × (other < 16) }
+        ensures { result ≡ (not (other == site) && not (is_received ((state_of self.now).stage site other))) }
     {
         other != site && self.stages[site][other] != Stage::Received
     }
 
     // Does the site lack the REPLY of another?
     pub(crate) fn lacks_reply(&self, site: usize) -> bool
-        requires { site < most_island_sites }
-        ensures tells_whether_it_lacks_one { result ≡ lacks self.now.sites site ((state_of self.now).stage site) }
+        requires { site < 16 }
+        ensures { result ≡ lacks self.now.sites site ((state_of self.now).stage site) }
     {
         for other in 0..self.sites {
             if self.awaits(site, other) {
@@ -72,16 +72,16 @@ impl RicartAgrawala {
 
     // Has the site deferred its answer to the other?
     fn has_deferred(&self, site: usize, other: usize) -> bool
-        requires { (site < most_island_sites) × (other < most_island_sites) }
-        ensures tells_whether_it_deferred { result ≡ is_deferred ((state_of self.now).stage other site) }
+        requires { (site < 16) × (other < 16) }
+        ensures { result ≡ is_deferred ((state_of self.now).stage other site) }
     {
         self.stages[other][site] == Stage::Deferred
     }
 
     // Has the site deferred its answer to anybody?
     fn has_deferred_any(&self, site: usize) -> bool
-        requires { site < most_island_sites }
-        ensures tells_whether_it_deferred_any { result ≡ has_deferred (state_of self.now) site }
+        requires { site < 16 }
+        ensures { result ≡ any (λ j. is_deferred ((state_of self.now).stage j site)) self.now.sites }
     {
         for waiting in 0..self.sites {
             if self.has_deferred(site, waiting) {
@@ -93,8 +93,8 @@ impl RicartAgrawala {
 
     // Does the site hold while somebody is known to want the resource?
     pub(crate) fn is_called(&self, site: usize) -> bool
-        requires { site < most_island_sites }
-        ensures tells_whether_called { result ≡ is_called (state_of self.now) site }
+        requires { site < 16 }
+        ensures { result ≡ is_called (state_of self.now) site }
     {
         self.status[site].is_holding() && self.has_deferred_any(site)
     }

@@ -1,22 +1,22 @@
 // What a step does: one of the messages under way comes to where it goes.
-ghost use Rattle.std.specs.Prelude.{◌≡◌, ◌<◌, if◌then◌else◌};
-ghost use Rattle.manager.specs.Meaning.{limit, most_island_sites};
+ghost use Rattle.std.specs.Prelude.{◌≡◌, ◌<◌, max, if◌then◌else◌};
+ghost use Rattle.manager.specs.Meaning.{limit};
 ghost use Rattle.ricart_rules.specs.Reading.{meaning_of};
 ghost use Rattle.ricart_rules.specs.Rules.{defers, received, replied, served, Delivered};
 ghost use Rattle.ricart_rules.specs.declared.Stage.TheVariants.{Deferred, Replied};
 ghost use Rattle.ricart_agrawala.specs.Reading.{state_of};
-ghost use Rattle.ricart_agrawala.specs.Receiving.{raised, noted, is_served, holding};
+ghost use Rattle.ricart_agrawala.specs.Receiving.{noted, is_served, holding};
 
 use crate::messages::Message;
 use crate::state::RicartAgrawala;
-use manager::Status;
+use manager::status::Status;
 use ricart_rules::Stage;
 
 impl RicartAgrawala {
     // Carries out message number k of those under way, and answers the site that came to hold, if one did.
     pub(crate) fn deliver(&mut self, k: u64) -> Option<usize>
         requires { (k < (meaning_of (state_of self.old)).underway) × (self.old.age < limit) }
-        ensures delivers_message_k { Delivered (state_of self.old) k result (state_of self.new) }
+        ensures { Delivered (state_of self.old) k result (state_of self.new) }
     {
         match self.find(k) {
             Message::Request { sender, receiver } => {
@@ -29,8 +29,8 @@ impl RicartAgrawala {
 
     // A REQUEST comes to its receiver, which raises its highest number, and defers the answer or sends a REPLY.
     fn receive_request(&mut self, sender: usize, receiver: usize)
-        requires { (sender < most_island_sites) × ((receiver < most_island_sites) × (self.old.age < limit)) }
-        ensures request_comes { state_of self.new ≡ received (state_of self.old) sender receiver }
+        requires { (sender < 16) × ((receiver < 16) × (self.old.age < limit)) }
+        ensures { state_of self.new ≡ received (state_of self.old) sender receiver }
     {
         self.stages[sender][receiver] = self.answer_to(sender, receiver);
         self.highest[receiver] = self.raised(sender, receiver);
@@ -39,8 +39,8 @@ impl RicartAgrawala {
 
     // What becomes of the sender's request when it has come to the receiver.
     fn answer_to(&self, sender: usize, receiver: usize) -> Stage
-        requires { (sender < most_island_sites) × (receiver < most_island_sites) }
-        ensures defers_or_replies { result ≡ (if defers (state_of self.now) receiver sender then Deferred else Replied) }
+        requires { (sender < 16) × (receiver < 16) }
+        ensures { result ≡ (if defers (state_of self.now) receiver sender then Deferred else Replied) }
     {
         if self.defers(receiver, sender) {
             Stage::Deferred
@@ -51,17 +51,17 @@ impl RicartAgrawala {
 
     // The highest number that the receiver knows when the sender's REQUEST has come.
     fn raised(&self, sender: usize, receiver: usize) -> u64
-        requires { (sender < most_island_sites) × (receiver < most_island_sites) }
-        ensures is_the_higher_number { result ≡ raised (state_of self.now) sender receiver }
+        requires { (sender < 16) × (receiver < 16) }
+        ensures { result ≡ max ((state_of self.now).highest receiver) ((state_of self.now).number sender) }
     {
         self.highest_at(receiver).max(self.number_of(sender))
     }
 
     // A REPLY comes to its receiver, which holds if it was the last. Answers the receiver then.
     fn receive_reply(&mut self, sender: usize, receiver: usize) -> Option<usize>
-        requires { (sender < most_island_sites) × ((receiver < most_island_sites) × (self.old.age < limit)) }
-        ensures reply_comes { state_of self.new ≡ replied (state_of self.old) sender receiver }
-        ensures answers_whom_it_serves { result ≡ served (state_of self.old) sender receiver }
+        requires { (sender < 16) × ((receiver < 16) × (self.old.age < limit)) }
+        ensures state { state_of self.new ≡ replied (state_of self.old) sender receiver }
+        ensures grant { result ≡ served (state_of self.old) sender receiver }
     {
         self.note_reply(sender, receiver);
         if self.is_served(receiver) {
@@ -73,8 +73,8 @@ impl RicartAgrawala {
     }
 
     fn note_reply(&mut self, sender: usize, receiver: usize)
-        requires { (sender < most_island_sites) × ((receiver < most_island_sites) × (self.old.age < limit)) }
-        ensures notes_the_reply { state_of self.new ≡ noted (state_of self.old) sender receiver }
+        requires { (sender < 16) × ((receiver < 16) × (self.old.age < limit)) }
+        ensures { state_of self.new ≡ noted (state_of self.old) sender receiver }
     {
         self.stages[receiver][sender] = Stage::Received;
         self.age += 1;
@@ -82,15 +82,15 @@ impl RicartAgrawala {
 
     // Does the site wait, and has it every REPLY?
     fn is_served(&self, site: usize) -> bool
-        requires { site < most_island_sites }
-        ensures tells_whether_served { result ≡ is_served (state_of self.now) site }
+        requires { site < 16 }
+        ensures { result ≡ is_served (state_of self.now) site }
     {
         self.status[site].is_waiting() && !self.lacks_reply(site)
     }
 
     fn hold(&mut self, site: usize)
-        requires { site < most_island_sites }
-        ensures makes_it_hold { state_of self.new ≡ holding (state_of self.old) site }
+        requires { site < 16 }
+        ensures { state_of self.new ≡ holding (state_of self.old) site }
     {
         self.status[site] = Status::Holding;
     }

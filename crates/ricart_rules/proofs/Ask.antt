@@ -2,9 +2,9 @@
 use Rattle.std.proofs.Common.{◌≡◌, ℕ, ◌+◌, ◌-◌, ◌<◌, ◌≤◌, true, refl, ap, ◌∙◌, inl, inr, arith}
 use Rattle.std.proofs.lemmas.Bool.{cases_eq, or_right}
 use Rattle.std.proofs.lemmas.Bool.Decides.{nat_tests}
-use Rattle.counting.specs.Tables.{total}
-use Rattle.counting.proofs.Sums.{upd_same, upd_other}
-use Rattle.counting.proofs.Tables.{total_ext, total_row_gains}
+use Rattle.counting.specs.Tables.{total, row}
+use Rattle.counting.proofs.Sums.{upd_same, upd_other, sum_but_one}
+use Rattle.counting.proofs.Tables.{total_ext, total_row_change}
 use Rattle.manager.specs.Effects.{Asked}
 use Rattle.manager.specs.declared.status.Status.TheVariants.{Idle, Waiting}
 use Rattle.ricart_rules.specs.Invariant.{Sound}
@@ -81,7 +81,11 @@ module _ (s : State) (i : ℕ) (v : Sound s) (within : i < s.sites) (idle : s.st
   -- At most the REQUESTs of row i are new, and i sends none to itself.
   asked_requests : total (requests (asked s i)) s.sites ≤ total (requests s) s.sites + (s.sites - 1)
   asked_requests =
-      total_row_gains (requests s) (requests (asked s i)) s.sites i within (λ a b ha hb ne. grind (arith, nat_tests)) (requests_most (asked s i) i) (grind (arith, nat_tests, v.no_loop i within))
+      let f : ℕ → ℕ → ℕ = requests s in
+      let g : ℕ → ℕ → ℕ = requests (asked s i) in
+      let changed : total g s.sites + row f s.sites i ≡ total f s.sites + row g s.sites i = total_row_change f g s.sites i within (λ a b ha hb ne. grind (arith, nat_tests)) in
+      let small : row g s.sites i + 1 ≤ s.sites = sum_but_one (g i) s.sites i within (λ j l. requests_most (asked s i) i j) (grind (arith, nat_tests, v.no_loop i within)) in
+      omega arith
 
   asked_replies : total (replies (asked s i)) s.sites ≡ total (replies s) s.sites
   asked_replies =

@@ -1,6 +1,6 @@
 -- What a state's tests say of it: who lacks a REPLY, who is called, who is barred, whose stamp is earlier, and what is
 -- under way.
-use Rattle.std.proofs.Common.{◌≡◌, ℕ, ◌+◌, ◌<◌, ◌≤◌, true, false, not, sym, refl, ap, inl, inr, arith}
+use Rattle.std.proofs.Common.{◌≡◌, ℕ, ◌+◌, ◌<◌, ◌≤◌, true, false, not, ◌&&◌, eqb, sym, refl, ap, inl, inr, arith}
 use Rattle.std.proofs.lemmas.Bool.{and_parts, and_from, cases_Bool, not-true, not_from_false}
 use Rattle.std.proofs.lemmas.Bool.Decides.{nat_tests}
 use Rattle.counting.specs.Tables.{total}
@@ -13,9 +13,9 @@ use Rattle.manager.proofs.Statuses.{holds_of}
 use Rattle.manager.specs.declared.status.Status.{Status}
 use Rattle.manager.specs.declared.status.Status.TheVariants.{Idle, Waiting, Holding}
 use Rattle.ricart_rules.specs.Invariant.{Sound}
-use Rattle.ricart_rules.specs.Reading.{has_deferred, is_called, is_held, yields_to, is_barred}
+use Rattle.ricart_rules.specs.Reading.{is_called, is_held, yields_to, is_barred}
 use Rattle.ricart_rules.specs.Rules.{requests, replies, messages}
-use Rattle.ricart_rules.specs.State.{State, earlier, is_requested, is_deferred, is_replied, answered, awaits, lacks}
+use Rattle.ricart_rules.specs.State.{State, earlier, is_requested, is_deferred, is_replied, is_received, answered, lacks}
 use Rattle.ricart_rules.specs.declared.Stage.{Stage}
 use Rattle.ricart_rules.specs.declared.Stage.TheVariants.{Unasked, Deferred, Received}
 
@@ -26,29 +26,29 @@ deferred_of x h = grind arith
 module _ (n i : ℕ) (stages : ℕ → Stage) where
   pub lacks_some : lacks n i stages ≡ true → (j : ℕ) × (j < n) × (j ≡ i → ⊥) × (stages j ≡ Received → ⊥)
   lacks_some h =
-      let w = any_some (awaits i stages) n h in
+      let w = any_some (λ j. not (eqb j i) && not (is_received (stages j))) n h in
       (w.0, w.1, λ e. grind (arith, nat_tests, w.2), λ e. grind (arith, nat_tests, w.2))
 
   pub lacks_from : (j : ℕ) → j < n → (j ≡ i → ⊥) → (stages j ≡ Received → ⊥) → lacks n i stages ≡ true
-  lacks_from j h ne r = any_from (awaits i stages) n j h (grind (arith, nat_tests))
+  lacks_from j h ne r = any_from (λ j. not (eqb j i) && not (is_received (stages j))) n j h (grind (arith, nat_tests))
 
   pub lacks_none : lacks n i stages ≡ false → (j : ℕ) → j < n → (j ≡ i → ⊥) → stages j ≡ Received
   lacks_none none j h ne =
-      let p = none_any (awaits i stages) n j none h in
+      let p = none_any (λ j. not (eqb j i) && not (is_received (stages j))) n j none h in
       grind (arith, nat_tests, p)
 
 -- Who is called.
 module _ (s : State) (i : ℕ) where
   pub called_holds : is_called s i ≡ true → s.status i ≡ Holding
-  called_holds c = holds_of (s.status i) (and_parts (is_holding (s.status i)) (has_deferred s i) c).0
+  called_holds c = holds_of (s.status i) (and_parts (is_holding (s.status i)) (any (λ j. is_deferred (s.stage j i)) s.sites) c).0
 
   pub called_some : is_called s i ≡ true → (j : ℕ) × (j < s.sites) × (s.stage j i ≡ Deferred)
   called_some c =
-      let w = any_some (λ j. is_deferred (s.stage j i)) s.sites (and_parts (is_holding (s.status i)) (has_deferred s i) c).1 in
+      let w = any_some (λ j. is_deferred (s.stage j i)) s.sites (and_parts (is_holding (s.status i)) (any (λ j. is_deferred (s.stage j i)) s.sites) c).1 in
       (w.0, w.1, deferred_of (s.stage w.0 i) w.2)
 
   pub called_from : s.status i ≡ Holding → (j : ℕ) → j < s.sites → s.stage j i ≡ Deferred → is_called s i ≡ true
-  called_from h j l d = and_from (is_holding (s.status i)) (has_deferred s i) (ap is_holding h) (any_from (λ j. is_deferred (s.stage j i)) s.sites j l (ap is_deferred d))
+  called_from h j l d = and_from (is_holding (s.status i)) (any (λ j. is_deferred (s.stage j i)) s.sites) (ap is_holding h) (any_from (λ j. is_deferred (s.stage j i)) s.sites j l (ap is_deferred d))
 
 -- Called lasts where a holder holds on, and whom it deferred it still does.
 pub called_kept : (s s' : State) (i : ℕ) → s'.sites ≡ s.sites → s'.status i ≡ Holding → ((j : ℕ) → j < s.sites → s.stage j i ≡ Deferred → s'.stage j i ≡ Deferred) → is_called s i ≡ true → is_called s' i ≡ true

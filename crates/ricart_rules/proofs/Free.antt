@@ -1,9 +1,9 @@
 -- A free at a holder keeps a state sound and does what a free has to do.
 use Rattle.std.proofs.Common.{◌≡◌, ℕ, ◌+◌, ◌-◌, ◌<◌, ◌≤◌, true, refl, ap, ◌∙◌, arith}
 use Rattle.std.proofs.lemmas.Bool.Decides.{nat_tests}
-use Rattle.counting.specs.Tables.{total}
-use Rattle.counting.proofs.Sums.{upd_same, upd_other}
-use Rattle.counting.proofs.Tables.{total_ext, total_row_gains}
+use Rattle.counting.specs.Tables.{total, row}
+use Rattle.counting.proofs.Sums.{upd_same, upd_other, sum_but_one}
+use Rattle.counting.proofs.Tables.{total_ext, total_row_change}
 use Rattle.manager.specs.Effects.{Freed}
 use Rattle.manager.specs.declared.status.Status.TheVariants.{Idle, Waiting, Holding}
 use Rattle.ricart_rules.specs.Invariant.{Sound}
@@ -55,7 +55,11 @@ module _ (s : State) (i : ℕ) (v : Sound s) (within : i < s.sites) (holds : s.s
   -- At most the REPLYs of row i are new, and i sends none to itself.
   freed_replies : total (replies (freed s i)) s.sites ≤ total (replies s) s.sites + (s.sites - 1)
   freed_replies =
-      total_row_gains (replies s) (replies (freed s i)) s.sites i within (λ a b ha hb ne. grind (arith, nat_tests, v.holder_has b a hb ha)) (replies_most (freed s i) i) (grind (arith, nat_tests))
+      let f : ℕ → ℕ → ℕ = replies s in
+      let g : ℕ → ℕ → ℕ = replies (freed s i) in
+      let changed : total g s.sites + row f s.sites i ≡ total f s.sites + row g s.sites i = total_row_change f g s.sites i within (λ a b ha hb ne. grind (arith, nat_tests, v.holder_has b a hb ha)) in
+      let small : row g s.sites i + 1 ≤ s.sites = sum_but_one (g i) s.sites i within (λ j l. replies_most (freed s i) i j) (grind (arith, nat_tests)) in
+      omega arith
 
   -- Whom a called site deferred goes first.
   freed_bars : is_called s i ≡ true → is_barred (freed s i) i ≡ true

@@ -5,7 +5,7 @@ use Rattle.counting.specs.Tables.{total}
 use Rattle.counting.proofs.Tables.{total_none, total_most}
 use Rattle.counting.proofs.Tests.{First, first_of}
 use Rattle.manager.specs.Laws.{Bounded, Lawful}
-use Rattle.manager.specs.Meaning.{most_island_sites, is_waiting}
+use Rattle.manager.specs.Meaning.{limit, is_waiting}
 use Rattle.manager.specs.declared.status.Status.TheVariants.{Waiting, Holding}
 use Rattle.ricart_rules.specs.Invariant.{Sound}
 use Rattle.ricart_rules.specs.Reading.{meaning_of, is_called}
@@ -48,9 +48,10 @@ module _ (s : State) (v : Sound s) where
     barred_free = λ i j hi hj b. barred_free s i b j hj;
   }
 
-pub bounded : (s : State) → 2 ≤ s.sites → s.sites ≤ most_island_sites → Bounded (meaning_of s)
-bounded s low high = record {
+pub bounded : (s : State) → 2 ≤ s.sites → s.sites ≤ 16 → s.age ≤ limit → Bounded (meaning_of s)
+bounded s low high young = record {
   fewest = low;
   most = omega arith;
   underway = grind (arith, messages_total s s.sites, total_most (requests s) s.sites (requests_most s), total_most (replies s) s.sites (replies_most s), mul-le-mul_right s.sites high);
+  age = young;
 }

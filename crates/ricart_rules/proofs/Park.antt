@@ -6,7 +6,6 @@ use Rattle.counting.specs.Tables.{total}
 use Rattle.counting.proofs.Sums.{upd_same, upd_other}
 use Rattle.counting.proofs.Tables.{total_zero}
 use Rattle.manager.specs.Effects.{Parked}
-use Rattle.manager.specs.Meaning.{most_island_sites}
 use Rattle.manager.specs.declared.status.Status.TheVariants.{Idle, Holding}
 use Rattle.ricart_rules.specs.Invariant.{Sound}
 use Rattle.ricart_rules.specs.Reading.{meaning_of}
@@ -14,7 +13,7 @@ use Rattle.ricart_rules.specs.Rules.{fresh, made, parked, requests, replies}
 use Rattle.ricart_rules.specs.State.{State}
 use Rattle.ricart_rules.proofs.Facts.{held_unbarred, messages_total}
 
-module _ (n g : ℕ) (low : 2 ≤ n) (high : n ≤ most_island_sites) (within : g < n) where
+module _ (n g : ℕ) (low : 2 ≤ n) (high : n ≤ 16) (within : g < n) where
   pub fresh_sound : Sound (fresh n g)
   fresh_sound = record {
     fewest = low;
@@ -40,9 +39,9 @@ module _ (n g : ℕ) (low : 2 ≤ n) (high : n ≤ most_island_sites) (within : 
   fresh_no_replies = total_zero (replies (fresh n g)) n (λ a b ha hb. grind (arith, nat_tests))
 
 pub made_sound : (n : ℕ) → Sound (made n)
-made_sound n = fresh_sound (fitted most_island_sites n) (fitted most_island_sites n - 1) (omega arith) (omega arith) (omega arith)
+made_sound n = fresh_sound (fitted n) (fitted n - 1) (omega arith) (omega arith) (omega arith)
 
-pub park_lawful : (s : State) (g : ℕ) → 2 ≤ s.sites → s.sites ≤ most_island_sites → g < s.sites → Sound (parked s g) × Parked (meaning_of s) g (meaning_of (parked s g))
+pub park_lawful : (s : State) (g : ℕ) → 2 ≤ s.sites → s.sites ≤ 16 → g < s.sites → Sound (parked s g) × Parked (meaning_of s) g (meaning_of (parked s g))
 park_lawful s g low high within =
     let no_requests = fresh_no_requests s.sites g low high within in
     let no_replies = fresh_no_replies s.sites g low high within in

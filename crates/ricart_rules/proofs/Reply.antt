@@ -3,7 +3,7 @@ use Rattle.std.proofs.Common.{◌≡◌, ℕ, ◌+◌, ◌<◌, Bool, true, fals
 use Rattle.std.proofs.lemmas.Bool.{cases_Bool, cases_eq, and_parts, not-true}
 use Rattle.std.proofs.lemmas.Bool.Decides.{nat_tests}
 use Rattle.counting.specs.Tables.{total}
-use Rattle.counting.proofs.Tables.{total_ext, total_cell_cleared}
+use Rattle.counting.proofs.Tables.{total_ext, total_change}
 use Rattle.manager.specs.Effects.{Stepped, Granted}
 use Rattle.manager.specs.Meaning.{is_waiting}
 use Rattle.manager.specs.declared.status.Status.TheVariants.{Idle, Waiting, Holding}
@@ -86,7 +86,12 @@ module _ (s : State) (v : Sound s) (a b : ℕ) (ha : a < s.sites) (hb : b < s.si
 
   replied_replies : total (replies (replied s a b)) s.sites + 1 ≡ total (replies s) s.sites
   replied_replies =
-      total_cell_cleared (replies s) (replies (replied s a b)) s.sites a ha b hb (λ i j hi hj ne. grind (arith, nat_tests)) (λ j hj ne. grind (arith, nat_tests)) (grind arith) (grind (arith, nat_tests))
+      let f : ℕ → ℕ → ℕ = replies s in
+      let g : ℕ → ℕ → ℕ = replies (replied s a b) in
+      let changed : total g s.sites + f a b ≡ total f s.sites + g a b = total_change f g s.sites a ha b hb (λ i j hi hj ne. grind (arith, nat_tests)) (λ j hj ne. grind (arith, nat_tests)) in
+      let one : f a b ≡ 1 = grind arith in
+      let none : g a b ≡ 0 = grind (arith, nat_tests) in
+      omega arith
 
   replied_granted : (last : Bool) → completes s a b ≡ last → Granted (meaning_of s) (cond last (Some b) None) (meaning_of (replied s a b))
   replied_granted true c = (hb, receiver_waits, grind (arith, nat_tests), λ j l ne. grind (arith, nat_tests))

@@ -3,7 +3,7 @@ use Rattle.std.proofs.Common.{◌≡◌, ℕ, ◌+◌, ◌<◌, ◌≤◌, true,
 use Rattle.std.proofs.lemmas.Bool.{both_ways, cases_Bool}
 use Rattle.std.proofs.lemmas.Bool.Decides.{nat_tests}
 use Rattle.counting.specs.Tables.{total}
-use Rattle.counting.proofs.Tables.{total_change, total_cell_cleared}
+use Rattle.counting.proofs.Tables.{total_change}
 use Rattle.manager.specs.Effects.{Stepped}
 use Rattle.manager.specs.declared.status.Status.TheVariants.{Idle, Waiting, Holding}
 use Rattle.ricart_rules.specs.Invariant.{Sound}
@@ -87,7 +87,12 @@ module _ (s : State) (v : Sound s) (a b : ℕ) (ha : a < s.sites) (hb : b < s.si
 
   received_requests : total (requests (received s a b)) s.sites + 1 ≡ total (requests s) s.sites
   received_requests =
-      total_cell_cleared (requests s) (requests (received s a b)) s.sites a ha b hb (λ i j hi hj ne. grind (arith, nat_tests)) (λ j hj ne. grind (arith, nat_tests)) (grind arith) (grind (arith, nat_tests))
+      let f : ℕ → ℕ → ℕ = requests s in
+      let g : ℕ → ℕ → ℕ = requests (received s a b) in
+      let changed : total g s.sites + f a b ≡ total f s.sites + g a b = total_change f g s.sites a ha b hb (λ i j hi hj ne. grind (arith, nat_tests)) (λ j hj ne. grind (arith, nat_tests)) in
+      let one : f a b ≡ 1 = grind arith in
+      let none : g a b ≡ 0 = grind (arith, nat_tests) in
+      omega arith
 
   received_replies : total (replies (received s a b)) s.sites ≤ total (replies s) s.sites + 1
   received_replies =

@@ -1,13 +1,12 @@
 -- What every call keeps true of a state, and what the laws of a manager follow from. Assumes nothing.
 use Rattle.std.specs.Prelude.{◌≡◌, ℕ, ◌+◌, ◌<◌, ◌≤◌, true, ◌⊎◌, ◌≢◌}
-use Rattle.manager.specs.Meaning.{most_island_sites}
 use Rattle.manager.specs.declared.status.Status.TheVariants.{Idle, Waiting, Holding}
 use Rattle.ricart_rules.specs.State.{State, earlier, answered, unanswered, reached, lacks}
 use Rattle.ricart_rules.specs.declared.Stage.TheVariants.{Unasked, Deferred, Received}
 
 pub record Sound (s : State) : Type 0 where
   pub fewest : 2 ≤ s.sites
-  pub most : s.sites ≤ most_island_sites
+  pub most : s.sites ≤ 16
   -- a site that is not idle, and no other, has a request, which goes to all sites but itself
   pub idle_unasked : (i j : ℕ) → i < s.sites → j < s.sites → s.status i ≡ Idle → s.stage i j ≡ Unasked
   pub busy_asked : (i j : ℕ) → i < s.sites → j < s.sites → (i ≢ j) → s.stage i j ≡ Unasked → s.status i ≡ Idle

@@ -6,13 +6,9 @@ use Rattle.manager.specs.Meaning.{Meaning, is_waiting, is_holding}
 use Rattle.ricart_rules.specs.Rules.{requests, replies, messages}
 use Rattle.ricart_rules.specs.State.{State, answered, is_deferred}
 
--- Has i deferred its answer to some site?
-abbrev pub has_deferred : State → ℕ → Bool
-has_deferred s i = any (λ j. is_deferred (s.stage j i)) s.sites
-
 -- A holder is called if it has deferred a site.
 abbrev pub is_called : State → ℕ → Bool
-is_called s i = is_holding (s.status i) && has_deferred s i
+is_called s i = is_holding (s.status i) && any (λ j. is_deferred (s.stage j i)) s.sites
 
 -- Does some site hold?
 abbrev pub is_held : State → Bool

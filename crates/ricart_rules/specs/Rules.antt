@@ -3,8 +3,7 @@ use Rattle.std.specs.Prelude.{◌≡◌, ℕ, ◌+◌, ◌-◌, ◌<◌, max, Bo
 use Rattle.counting.specs.Sizes.{fitted}
 use Rattle.counting.specs.Sums.{one_if, upd}
 use Rattle.counting.specs.Tables.{before, upd2}
-use Rattle.manager.specs.Meaning.{most_island_sites, is_waiting, is_holding}
-use Rattle.manager.specs.declared.status.Status.{Status}
+use Rattle.manager.specs.Meaning.{is_waiting, is_holding}
 use Rattle.manager.specs.declared.status.Status.TheVariants.{Idle, Waiting, Holding}
 use Rattle.ricart_rules.specs.State.{State, earlier, is_requested, is_deferred, is_replied, lacks}
 use Rattle.ricart_rules.specs.declared.Stage.{Stage}
@@ -31,7 +30,7 @@ parked s g = fresh s.sites g
 
 -- A new manager is parked at its last site.
 abbrev pub made : ℕ → State
-made n = fresh (fitted most_island_sites n) (fitted most_island_sites n - 1)
+made n = fresh (fitted n) (fitted n - 1)
 
 -- Site i takes the number after the highest that it has received, and sends a REQUEST with its stamp to all others.
 abbrev pub asked : State → ℕ → State
@@ -74,20 +73,16 @@ received s a b = record {
 abbrev pub completes : State → (a b : ℕ) → Bool
 completes s a b = is_waiting (s.status b) && not (lacks s.sites b (upd2 s.stage b a Received b))
 
--- The REPLY of a has come to b, with the statuses so.
-abbrev pub after_reply : State → (a b : ℕ) → (ℕ → Status) → State
-after_reply s a b status = record {
+-- The REPLY of a comes to b, which holds if it was the last.
+abbrev pub replied : State → (a b : ℕ) → State
+replied s a b = record {
   sites = s.sites;
-  status = status;
+  status = cond (completes s a b) (upd s.status b Holding) s.status;
   highest = s.highest;
   number = s.number;
   stage = upd2 s.stage b a Received;
   age = s.age + 1;
 }
-
--- The REPLY of a comes to b, which holds if it was the last.
-abbrev pub replied : State → (a b : ℕ) → State
-replied s a b = after_reply s a b (cond (completes s a b) (upd s.status b Holding) s.status)
 
 -- The site that a REPLY from a to b brings to hold.
 abbrev pub served : State → (a b : ℕ) → Option ℕ

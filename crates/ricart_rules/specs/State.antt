@@ -25,16 +25,32 @@ abbrev pub earlier : State → (i j : ℕ) → Bool
 earlier s i j = nat_lt (s.number i) (s.number j) || (s.number i == s.number j && nat_lt i j)
 
 abbrev pub is_requested : Stage → Bool
-is_requested x = elim x [ Unasked ↦ false | Requested ↦ true | Deferred ↦ false | Replied ↦ false | Received ↦ false ]
+is_requested Unasked = false
+is_requested Requested = true
+is_requested Deferred = false
+is_requested Replied = false
+is_requested Received = false
 
 abbrev pub is_deferred : Stage → Bool
-is_deferred x = elim x [ Unasked ↦ false | Requested ↦ false | Deferred ↦ true | Replied ↦ false | Received ↦ false ]
+is_deferred Unasked = false
+is_deferred Requested = false
+is_deferred Deferred = true
+is_deferred Replied = false
+is_deferred Received = false
 
 abbrev pub is_replied : Stage → Bool
-is_replied x = elim x [ Unasked ↦ false | Requested ↦ false | Deferred ↦ false | Replied ↦ true | Received ↦ false ]
+is_replied Unasked = false
+is_replied Requested = false
+is_replied Deferred = false
+is_replied Replied = true
+is_replied Received = false
 
 abbrev pub is_received : Stage → Bool
-is_received x = elim x [ Unasked ↦ false | Requested ↦ false | Deferred ↦ false | Replied ↦ false | Received ↦ true ]
+is_received Unasked = false
+is_received Requested = false
+is_received Deferred = false
+is_received Replied = false
+is_received Received = true
 
 -- The other site has sent its REPLY.
 abbrev pub answered : Stage → Bool
@@ -48,10 +64,6 @@ unanswered x = is_requested x || is_deferred x
 abbrev pub reached : Stage → Bool
 reached x = is_deferred x || answered x
 
--- Of a site i, with the stages that its request has come to: is j another site, whose REPLY has not come?
-abbrev pub awaits : (i : ℕ) → (ℕ → Stage) → (j : ℕ) → Bool
-awaits i stages j = not (j == i) && not (is_received (stages j))
-
--- Has the REPLY of one of the sites below n not come?
+-- Of a site i among n, with the stages that its request has come to: has the REPLY of another site not come?
 abbrev pub lacks : (n i : ℕ) → (ℕ → Stage) → Bool
-lacks n i stages = any (awaits i stages) n
+lacks n i stages = any (λ j. not (j == i) && not (is_received (stages j))) n

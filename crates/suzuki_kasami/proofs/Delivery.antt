@@ -3,13 +3,13 @@ use Rattle.std.proofs.Common.{◌≡◌, ℕ, ◌<◌, ◌≤◌, false, ◌&&�
 use Rattle.std.proofs.lemmas.Bool.{cond-true, and_from, lt-ltb}
 use Rattle.counting.specs.Tables.{total}
 use Rattle.suzuki_rules.specs.Reading.{meaning_of, tokens_sent}
-use Rattle.suzuki_rules.specs.Rules.{arrived, requests, Delivered, request_comes, token_comes}
+use Rattle.suzuki_rules.specs.Rules.{received, arrived, requests, Delivered, request_comes, token_comes}
 use Rattle.suzuki_rules.specs.State.{State}
 use Rattle.suzuki_rules.specs.declared.Token.TheVariants.{Sent}
-use Rattle.suzuki_kasami.specs.Reading.{state_of, link_of, request_received, Found}
+use Rattle.suzuki_kasami.specs.Reading.{state_of, link_of, Found}
 use Rattle.suzuki_kasami.specs.declared.state.SuzukiKasami.{SuzukiKasami}
 
-pub request_delivered : (m : SuzukiKasami) (k a b : ℕ) (after : State) → Found m k a b → after ≡ request_received (state_of m) a b → Delivered (state_of m) k None after
+pub request_delivered : (m : SuzukiKasami) (k a b : ℕ) (after : State) → Found m k a b → after ≡ received (state_of m) a b (get_or (get_or m.known a []) a 0) → Delivered (state_of m) k None after
 request_delivered m k a b after found e =
     let number = get_or (get_or m.known a []) a 0 in
     let near = ltb b m.sites in

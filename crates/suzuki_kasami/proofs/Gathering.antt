@@ -7,7 +7,7 @@ use Rattle.suzuki_rules.specs.Invariant.{Sound}
 use Rattle.suzuki_rules.specs.Rules.{range, order, enqueued, searched}
 use Rattle.suzuki_rules.specs.State.{State, queued, wants}
 use Rattle.suzuki_rules.proofs.Search.{range_more, order_visits, visits_site, searched_once, searched_site, room_for}
-use Rattle.suzuki_kasami.specs.Waiting.{pushed, noted, gathered, gathered_all}
+use Rattle.suzuki_kasami.specs.Waiting.{pushed, noted, gathered}
 
 either : (in_queue waits : Bool) (q p r : List ℕ) → (in_queue ≡ false → p ≡ r) → cond in_queue q (cond waits p q) ≡ cond in_queue q (cond waits r q)
 either true waits q p r new = refl
@@ -42,13 +42,13 @@ module _ (s : State) (i : ℕ) where
         let room : length q < 16 = omega (arith, room_for q s.sites j below once none h) in
         cond-true (ltb (length q) 16) (q ++ (j ∷ [])) q (lt-ltb (length q) 16 room))
 
-    gathered_searched : (q js : List ℕ) → ((x : ℕ) → 0 < times q x → x < s.sites) → ((x : ℕ) → times q x ≤ 1) → ((x : ℕ) → 0 < times js x → x < s.sites) → gathered s i q js ≡ searched s i q js
-    gathered_searched q [] below once within = refl
-    gathered_searched q (j ∷ js) below once within =
+    gathered_all : (q js : List ℕ) → ((x : ℕ) → 0 < times q x → x < s.sites) → ((x : ℕ) → times q x ≤ 1) → ((x : ℕ) → 0 < times js x → x < s.sites) → gathered s i q js ≡ searched s i q js
+    gathered_all q [] below once within = refl
+    gathered_all q (j ∷ js) below once within =
         let here : one_if (eqb j j) ≡ 1 = cond-true (eqb j j) 1 0 (eq-eqb j j refl) in
         ap (λ x. gathered s i x js) (noted_enqueued q j below once (within j (omega arith)))
-        ∙ gathered_searched (enqueued s i q j) js (searched_site s i s.sites q (j ∷ []) below (λ x p. within x (omega arith))) (searched_once s i q (j ∷ []) once) (λ x p. within x (omega arith))
+        ∙ gathered_all (enqueued s i q j) js (searched_site s i s.sites q (j ∷ []) below (λ x p. within x (omega arith))) (searched_once s i q (j ∷ []) once) (λ x p. within x (omega arith))
 
-pub gathered_sound : (s : State) (i : ℕ) → Sound s → i < s.sites → gathered_all s i ≡ searched s i s.queue (order i s.sites)
+pub gathered_sound : (s : State) (i : ℕ) → Sound s → i < s.sites → gathered s i s.queue (order i s.sites) ≡ searched s i s.queue (order i s.sites)
 gathered_sound s i sound h =
-    gathered_searched s i sound.most s.queue (order i s.sites) sound.queue_site sound.once (visits_site (order i s.sites) s.sites i (order_visits i s.sites h))
+    gathered_all s i sound.most s.queue (order i s.sites) sound.queue_site sound.once (visits_site (order i s.sites) s.sites i (order_visits i s.sites h))

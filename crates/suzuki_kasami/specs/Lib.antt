@@ -1,4 +1,3 @@
 pub mod Places
-pub mod Queues
 pub mod Reading
 pub mod Waiting

@@ -1,12 +1,10 @@
--- The queue as it is stored, in a place for each site that there may be. Assumes nothing.
+-- The queue as it is stored: 16 places. Assumes nothing.
 use Rattle.std.specs.Prelude.{ℕ, cond, List, [], ◌∷◌, ◌++◌, length, Some, None, Option, nat_lt}
-use Rattle.manager.specs.Meaning.{most_island_sites}
-use Rattle.suzuki_rules.specs.Rules.{order}
 use Rattle.suzuki_rules.specs.State.{State, queued, wants}
 
 -- A full queue takes no more.
 abbrev pub pushed : List ℕ → ℕ → List ℕ
-pushed q j = cond (nat_lt (length q) most_island_sites) (q ++ (j ∷ [])) q
+pushed q j = cond (nat_lt (length q) 16) (q ++ (j ∷ [])) q
 
 abbrev pub first_of : List ℕ → Option ℕ
 first_of [] = None
@@ -19,7 +17,3 @@ noted s i q j = cond (queued q j) q (cond (wants s i j) (pushed q j) q)
 abbrev pub gathered : State → ℕ → List ℕ → List ℕ → List ℕ
 gathered s i q [] = q
 gathered s i q (j ∷ js) = gathered s i (noted s i q j) js
-
--- The queue once site i has gone through all others.
-abbrev pub gathered_all : State → ℕ → List ℕ
-gathered_all s i = gathered s i s.queue (order i s.sites)

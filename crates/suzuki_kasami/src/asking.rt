@@ -3,18 +3,18 @@ ghost use Rattle.std.specs.Prelude.{◌≡◌, ◌<◌};
 ghost use Rattle.manager.specs.Meaning.{limit};
 ghost use Rattle.suzuki_rules.specs.Invariant.{Sound};
 ghost use Rattle.suzuki_rules.specs.Rules.{asked, held, requested};
-ghost use Rattle.suzuki_kasami.specs.Reading.{state_of, Follows};
+ghost use Rattle.suzuki_kasami.specs.Reading.{state_of};
 
 use crate::requests::others;
 use crate::state::SuzukiKasami;
-use manager::Status;
+use manager::status::Status;
 
 impl SuzukiKasami {
     // The site that has the token holds there and then. Any other sends a REQUEST to all others. Answers its status then.
     pub(crate) fn request(&mut self, site: usize) -> Status
         requires { (site < self.old.sites) × (self.old.age < limit) }
-        ensures asks_by_the_rule { Follows asked self.old site self.new }
-        ensures answers_its_status_then { Sound (state_of self.old) → result ≡ (state_of self.new).status site }
+        ensures state { Sound (state_of self.old) → state_of self.new ≡ asked (state_of self.old) site }
+        ensures status { Sound (state_of self.old) → result ≡ (state_of self.new).status site }
     {
         if self.has_token(site) {
             self.hold(site);
@@ -27,7 +27,7 @@ impl SuzukiKasami {
 
     fn hold(&mut self, site: usize)
         requires { (site < self.old.sites) × (self.old.age < limit) }
-        ensures makes_it_hold { state_of self.new ≡ held (state_of self.old) site }
+        ensures { state_of self.new ≡ held (state_of self.old) site }
     {
         self.status[site] = Status::Holding;
         self.age += 1;
@@ -36,7 +36,7 @@ impl SuzukiKasami {
     // Adds 1 to the site's own number, and sends a REQUEST with it to all others.
     fn send_requests(&mut self, site: usize)
         requires { (site < self.old.sites) × (self.old.age < limit) }
-        ensures sends_to_all_others { Follows requested self.old site self.new }
+        ensures { Sound (state_of self.old) → state_of self.new ≡ requested (state_of self.old) site }
     {
         self.status[site] = Status::Waiting;
         self.known[site][site] = self.known[site][site].saturating_add(1);

@@ -1,39 +1,38 @@
 // How a manager is made, and how it begins anew.
 ghost use Rattle.std.specs.Prelude.{◌≡◌, ◌<◌, ◌≤◌};
-ghost use Rattle.manager.specs.Meaning.{most_island_sites};
 ghost use Rattle.suzuki_rules.specs.Invariant.{Sound};
 ghost use Rattle.suzuki_rules.specs.Rules.{fresh, made};
 ghost use Rattle.suzuki_kasami.specs.Reading.{state_of};
 
 use crate::queue::Queue;
 use crate::state::SuzukiKasami;
-use manager::{MOST_ISLAND_SITES, Status};
+use manager::status::Status;
 use suzuki_rules::Token;
 
 impl SuzukiKasami {
     // A manager of as many sites as fit, parked at the last of them: fewer than 2 make 2, more than 16 make 16.
     pub fn new(sites: usize) -> SuzukiKasami
-        ensures is_parked_at_its_last_site { state_of result ≡ made sites }
-        ensures is_sound { Sound (state_of result) }
+        ensures state { state_of result ≡ made sites }
+        ensures sound { Sound (state_of result) }
     {
-        let sites = sites.clamp(2, MOST_ISLAND_SITES);
+        let sites = sites.clamp(2, 16);
         SuzukiKasami::parked(sites, sites - 1)
     }
 
     // The token is at one site, which holds; all numbers are 0 and nothing is under way.
     pub(crate) fn parked(sites: usize, site: usize) -> SuzukiKasami
-        requires { (2 ≤ sites) × ((sites ≤ most_island_sites) × (site < sites)) }
-        ensures is_parked_at_site { state_of result ≡ fresh sites site }
+        requires { (2 ≤ sites) × ((sites ≤ 16) × (site < sites)) }
+        ensures { state_of result ≡ fresh sites site }
     {
-        let mut status = [Status::Idle; MOST_ISLAND_SITES];
+        let mut status = [Status::Idle; 16];
         status[site] = Status::Holding;
         SuzukiKasami {
             sites,
             status,
-            known: [[0; MOST_ISLAND_SITES]; MOST_ISLAND_SITES],
-            requests: [[false; MOST_ISLAND_SITES]; MOST_ISLAND_SITES],
+            known: [[0; 16]; 16],
+            requests: [[false; 16]; 16],
             token: Token::At(site),
-            served: [0; MOST_ISLAND_SITES],
+            served: [0; 16],
             queue: Queue::new(),
             age: 0,
         }

@@ -2,9 +2,9 @@
 use Rattle.std.proofs.Common.{◌≡◌, ℕ, ◌+◌, ◌-◌, ◌<◌, ◌≤◌, false, Some, refl, inl, inr, arith}
 use Rattle.std.proofs.lemmas.Bool.{cases_eq, cond_both}
 use Rattle.std.proofs.lemmas.Bool.Decides.{nat_tests}
-use Rattle.counting.specs.Tables.{total}
-use Rattle.counting.proofs.Sums.{upd_same, upd_other}
-use Rattle.counting.proofs.Tables.{total_row_gains}
+use Rattle.counting.specs.Tables.{total, row}
+use Rattle.counting.proofs.Sums.{upd_same, upd_other, sum_but_one}
+use Rattle.counting.proofs.Tables.{total_row_change}
 use Rattle.manager.specs.Effects.{Asked}
 use Rattle.manager.specs.declared.status.Status.TheVariants.{Idle, Waiting, Holding}
 use Rattle.suzuki_rules.specs.Invariant.{Sound, Heard}
@@ -64,7 +64,11 @@ module _ (s : State) (i : ℕ) (v : Sound s) (within : i < s.sites) (idle : s.st
     -- At most the REQUESTs of row i are new, and i sends none to itself.
     requested_total : total (requests (requested s i)) s.sites ≤ total (requests s) s.sites + (s.sites - 1)
     requested_total =
-        total_row_gains (requests s) (requests (requested s i)) s.sites i within (λ a b ha hb ne. grind (arith, nat_tests)) (requests_most (requested s i) i) (grind (arith, nat_tests, v.no_loop i within))
+        let f : ℕ → ℕ → ℕ = requests s in
+        let g : ℕ → ℕ → ℕ = requests (requested s i) in
+        let changed : total g s.sites + row f s.sites i ≡ total f s.sites + row g s.sites i = total_row_change f g s.sites i within (λ a b ha hb ne. grind (arith, nat_tests)) in
+        let small : row g s.sites i + 1 ≤ s.sites = sum_but_one (g i) s.sites i within (λ j l. requests_most (requested s i) i j) (grind (arith, nat_tests, v.no_loop i within)) in
+        omega arith
 
     requested_asked : Asked (meaning_of s) i (meaning_of (requested s i))
     requested_asked = record {

@@ -1,5 +1,5 @@
 -- What a state's tests say of it: who has the token, who is called, who is barred, and what is under way.
-use Rattle.std.proofs.Common.{◌≡◌, ℕ, ◌+◌, ◌<◌, ◌≤◌, true, false, not, ◌||◌, eqb, ◌⊎◌, List, [], ◌∷◌, Some, None, Option, refl, ap, ◌∙◌, inl, inr, arith}
+use Rattle.std.proofs.Common.{◌≡◌, ℕ, ◌+◌, ◌<◌, ◌≤◌, true, false, not, ◌&&◌, ◌||◌, eqb, ◌⊎◌, List, [], ◌∷◌, Some, None, Option, refl, ap, ◌∙◌, inl, inr, arith}
 use Rattle.std.proofs.lemmas.Bool.{and_parts, and_from, or_cases, or_right, not-true, cases_eq}
 use Rattle.std.proofs.lemmas.Bool.Decides.{nat_tests}
 use Rattle.counting.specs.Sums.{times}
@@ -11,7 +11,7 @@ use Rattle.manager.specs.declared.status.Status.TheVariants.{Idle, Waiting, Hold
 use Rattle.suzuki_rules.specs.State.{State, has_token, wants}
 use Rattle.suzuki_rules.specs.Invariant.{Sound, Heard}
 use Rattle.suzuki_rules.specs.Rules.{requests}
-use Rattle.suzuki_rules.specs.Reading.{wants_other, wanted, empty, is_called, is_barred}
+use Rattle.suzuki_rules.specs.Reading.{wanted, empty, is_called, is_barred}
 use Rattle.suzuki_rules.specs.declared.Token.{Token}
 use Rattle.suzuki_rules.specs.declared.Token.TheVariants.{At, Sent}
 
@@ -31,11 +31,11 @@ sent_bars s t i e ne = grind (arith, nat_tests)
 
 pub wanted_some : (s : State) (i n : ℕ) → wanted s i n ≡ true → (j : ℕ) × (j < n) × (j ≡ i → ⊥) × (wants s i j ≡ true)
 wanted_some s i n h =
-    let w = any_some (wants_other s i) n h in
+    let w = any_some (λ j. wants s i j && not (eqb j i)) n h in
     (w.0, w.1, λ e. grind (arith, nat_tests, w.2), (and_parts (wants s i w.0) (not (eqb w.0 i)) w.2).0)
 
 pub wanted_from : (s : State) (i j n : ℕ) → j < n → (j ≡ i → ⊥) → wants s i j ≡ true → wanted s i n ≡ true
-wanted_from s i j n h ne w = any_from (wants_other s i) n j h (grind (arith, nat_tests))
+wanted_from s i j n h ne w = any_from (λ j. wants s i j && not (eqb j i)) n j h (grind (arith, nat_tests))
 
 -- The queue has a site, or site i knows one to wait.
 abbrev pub Wanted : State → ℕ → Type 0

@@ -4,7 +4,7 @@ use Rattle.std.proofs.lemmas.Bool.Decides.{nat_tests}
 use Rattle.counting.specs.Tables.{total}
 use Rattle.counting.proofs.Tables.{total_none, total_most}
 use Rattle.manager.specs.Laws.{Bounded, Lawful}
-use Rattle.manager.specs.Meaning.{most_island_sites}
+use Rattle.manager.specs.Meaning.{limit}
 use Rattle.manager.specs.declared.status.Status.{Status}
 use Rattle.manager.specs.declared.status.Status.TheVariants.{Idle, Waiting, Holding}
 use Rattle.suzuki_rules.specs.Invariant.{Sound}
@@ -62,9 +62,10 @@ module _ (s : State) (v : Sound s) where
       served i hi w none (At t) e = token_serves i hi w (omega arith) t e
       served i hi w none (Sent t) e = absurd (grind arith)
 
-pub bounded : (s : State) → 2 ≤ s.sites → s.sites ≤ most_island_sites → Bounded (meaning_of s)
-bounded s low high = record {
+pub bounded : (s : State) → 2 ≤ s.sites → s.sites ≤ 16 → s.age ≤ limit → Bounded (meaning_of s)
+bounded s low high young = record {
   fewest = low;
   most = omega arith;
   underway = grind (arith, total_most (requests s) s.sites (requests_most s), mul-le-mul_right s.sites high);
+  age = young;
 }

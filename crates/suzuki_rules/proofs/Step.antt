@@ -4,7 +4,7 @@ use Rattle.std.proofs.lemmas.Bool.{cases_Bool, cond_both}
 use Rattle.std.proofs.lemmas.Bool.Decides.{nat_tests}
 use Rattle.counting.specs.Tables.{total}
 use Rattle.counting.proofs.Sums.{upd_same, upd_other}
-use Rattle.counting.proofs.Tables.{total_cell_cleared}
+use Rattle.counting.proofs.Tables.{total_change}
 use Rattle.manager.specs.Effects.{Stepped}
 use Rattle.manager.specs.Meaning.{is_idle}
 use Rattle.manager.specs.declared.status.Status.TheVariants.{Idle, Waiting, Holding}
@@ -72,7 +72,12 @@ module _ (s : State) (v : Sound s) (a b m : ℕ) (ha : a < s.sites) (hb : b < s.
 
   received_total : total (requests (received s a b m)) s.sites + 1 ≡ total (requests s) s.sites
   received_total =
-      total_cell_cleared (requests s) (requests (received s a b m)) s.sites a ha b hb (λ i j hi hj ne. grind (arith, nat_tests)) (λ j hj ne. grind (arith, nat_tests)) (grind arith) (grind (arith, nat_tests))
+      let f : ℕ → ℕ → ℕ = requests s in
+      let g : ℕ → ℕ → ℕ = requests (received s a b m) in
+      let changed : total g s.sites + f a b ≡ total f s.sites + g a b = total_change f g s.sites a ha b hb (λ i j hi hj ne. grind (arith, nat_tests)) (λ j hj ne. grind (arith, nat_tests)) in
+      let one : f a b ≡ 1 = grind arith in
+      let none : g a b ≡ 0 = grind (arith, nat_tests) in
+      omega arith
 
   received_tokens : tokens_sent (received s a b m).token ≤ tokens_sent s.token + 1
   received_tokens = grind arith

@@ -1,7 +1,6 @@
 -- What every call keeps true of a state, and what the laws of a manager follow from. Assumes nothing.
 use Rattle.std.specs.Prelude.{◌≡◌, ℕ, ◌+◌, ◌<◌, ◌≤◌, [], Some, None, Option, ◌≢◌}
 use Rattle.counting.specs.Sums.{times}
-use Rattle.manager.specs.Meaning.{most_island_sites}
 use Rattle.manager.specs.declared.status.Status.TheVariants.{Idle, Waiting, Holding}
 use Rattle.suzuki_rules.specs.State.{State}
 use Rattle.suzuki_rules.specs.declared.Token.TheVariants.{At, Sent}
@@ -13,7 +12,7 @@ Heard None own heard = heard ≡ own
 
 pub record Sound (s : State) : Type 0 where
   pub fewest : 2 ≤ s.sites
-  pub most : s.sites ≤ most_island_sites
+  pub most : s.sites ≤ 16
   -- the token is at a site, or on its way to a site that waits
   pub at_site : (t : ℕ) → s.token ≡ At t → t < s.sites
   pub sent_site : (t : ℕ) → s.token ≡ Sent t → t < s.sites

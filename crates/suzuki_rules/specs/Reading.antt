@@ -8,13 +8,9 @@ use Rattle.suzuki_rules.specs.State.{State, wants}
 use Rattle.suzuki_rules.specs.declared.Token.{Token}
 use Rattle.suzuki_rules.specs.declared.Token.TheVariants.{At, Sent}
 
--- Is j another site than i, and does i know it to wait?
-abbrev pub wants_other : State → (i j : ℕ) → Bool
-wants_other s i j = wants s i j && not (j == i)
-
 -- Does i know one of the sites below n, other than itself, to wait?
 abbrev pub wanted : State → ℕ → ℕ → Bool
-wanted s i n = any (wants_other s i) n
+wanted s i n = any (λ j. wants s i j && not (j == i)) n
 
 abbrev pub empty : List ℕ → Bool
 empty [] = true

@@ -3,7 +3,7 @@ use Rattle.std.specs.Prelude.{◌≡◌, ℕ, zero, suc, ◌+◌, ◌-◌, ◌<�
 use Rattle.counting.specs.Sizes.{fitted}
 use Rattle.counting.specs.Sums.{upd}
 use Rattle.counting.specs.Tables.{before, total, upd2}
-use Rattle.manager.specs.Meaning.{most_island_sites, is_idle}
+use Rattle.manager.specs.Meaning.{is_idle}
 use Rattle.manager.specs.declared.status.Status.TheVariants.{Idle, Waiting, Holding}
 use Rattle.suzuki_rules.specs.State.{State, has_token, wants, queued}
 use Rattle.suzuki_rules.specs.declared.Token.{Token}
@@ -27,24 +27,20 @@ parked s g = fresh s.sites g
 
 -- A new manager is parked at its last site.
 abbrev pub made : ℕ → State
-made n = fresh (fitted most_island_sites n) (fitted most_island_sites n - 1)
+made n = fresh (fitted n) (fitted n - 1)
 
--- Site i comes to hold, with the token so.
-abbrev pub holding : State → ℕ → Token → State
-holding s i token = record {
+-- The site that has the token holds there and then.
+abbrev pub held : State → ℕ → State
+held s i = record {
   sites = s.sites;
   status = upd s.status i Holding;
   known = s.known;
   link = s.link;
-  token = token;
+  token = s.token;
   served = s.served;
   queue = s.queue;
   age = s.age + 1;
 }
-
--- The site that has the token holds there and then.
-abbrev pub held : State → ℕ → State
-held s i = holding s i s.token
 
 -- Any other adds 1 to its own number and sends a REQUEST with it to all others. One still under way is replaced.
 abbrev pub requested : State → ℕ → State
@@ -121,7 +117,16 @@ received s a b m = record {
 
 -- The token comes to t, which holds from then on.
 abbrev pub arrived : State → ℕ → State
-arrived s t = holding s t (At t)
+arrived s t = record {
+  sites = s.sites;
+  status = upd s.status t Holding;
+  known = s.known;
+  link = s.link;
+  token = At t;
+  served = s.served;
+  queue = s.queue;
+  age = s.age + 1;
+}
 
 -- 1 for a REQUEST under way from a to b, else 0
 abbrev pub requests : State → (a b : ℕ) → ℕ

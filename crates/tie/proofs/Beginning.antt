@@ -1,23 +1,18 @@
 -- What parking the three parts and setting the gateways comes to: the tie is parked.
 use Rattle.std.proofs.Common.{◌≡◌, ℕ, subst}
 use Rattle.manager.specs.Kinds.{Kind}
-use Rattle.gateway.specs.declared.state.Gateway.{Gateway}
-use Rattle.tie_rules.specs.Reading.{border}
+use Rattle.tie_rules.specs.Reading.{last, border}
 use Rattle.tie_rules.specs.Rules.{Parks, parks_left, parks_right}
-use Rattle.tie.specs.Beginning.{Begins, BeginsLeft, BeginsRight}
+use Rattle.tie_rules.specs.State.{Tie}
+use Rattle.tie_rules.specs.declared.Gateway.TheVariants.{Out, In}
 use Rattle.tie.specs.Places.{PlacedAt}
-use Rattle.tie.specs.Reading.{tie_of}
 use Rattle.tie.specs.declared.sites.Place.TheVariants.{Left, Right}
-use Rattle.tie.specs.declared.state.Tie.{Tie}
 
-module _ {L R O : Type 0} {kl : Kind L} {kr : Kind R} {ko : Kind O} {t t' : Tie L R O} where
-  stored : {left_site right_site post : ℕ} {left_gate right_gate : Gateway} → Begins kl kr ko t left_site right_site post left_gate right_gate t' → tie_of t' ≡ record { left = t'.left; right = t'.right; outer = t'.outer; left_gate = left_gate; right_gate = right_gate; age = 0 }
-  stored b = λ k. record { left = t'.left; right = t'.right; outer = t'.outer; left_gate = b.left_set k; right_gate = b.right_set k; age = b.parts.age k }
+module _ {L R O : Type 0} (kl : Kind L) (kr : Kind R) (ko : Kind O) (t t' : Tie L R O) (i j : ℕ) where
+  pub parked_left : PlacedAt (border kl kr ko t) i (Left j) → kl.parks t.left j t'.left → kr.parks t.right (last (kr.meaning t.right)) t'.right → ko.parks t.outer 0 t'.outer → t'.left_gate ≡ In → t'.right_gate ≡ Out → t'.age ≡ 0 → Parks kl kr ko t i t'
+  parked_left (h, e) left right outer left_gate right_gate age =
+      parks_left t'.left t'.right t'.outer h (subst (λ (n : ℕ). kl.parks t.left n t'.left) e left) right outer (λ k. record { left = t'.left; right = t'.right; outer = t'.outer; left_gate = left_gate k; right_gate = right_gate k; age = age k })
 
-  pub parked_left : {i j : ℕ} → PlacedAt (border kl kr ko (tie_of t)) i (Left j) → BeginsLeft kl kr ko t j t' → Parks kl kr ko (tie_of t) i (tie_of t')
-  parked_left (h, e) b =
-      parks_left t'.left t'.right t'.outer h (subst (λ (n : ℕ). kl.parks t.left n t'.left) e b.parts.left) b.parts.right b.parts.outer (stored b)
-
-  pub parked_right : {i j : ℕ} → PlacedAt (border kl kr ko (tie_of t)) i (Right j) → BeginsRight kl kr ko t j t' → Parks kl kr ko (tie_of t) i (tie_of t')
-  parked_right (h, e) b =
-      parks_right t'.left t'.right t'.outer h b.parts.left (subst (λ (n : ℕ). kr.parks t.right n t'.right) e b.parts.right) b.parts.outer (stored b)
+  pub parked_right : PlacedAt (border kl kr ko t) i (Right j) → kl.parks t.left (border kl kr ko t) t'.left → kr.parks t.right j t'.right → ko.parks t.outer 1 t'.outer → t'.left_gate ≡ Out → t'.right_gate ≡ In → t'.age ≡ 0 → Parks kl kr ko t i t'
+  parked_right (h, e) left right outer left_gate right_gate age =
+      parks_right t'.left t'.right t'.outer h left (subst (λ (n : ℕ). kr.parks t.right n t'.right) e right) outer (λ k. record { left = t'.left; right = t'.right; outer = t'.outer; left_gate = left_gate k; right_gate = right_gate k; age = age k })

@@ -3,8 +3,7 @@ use Rattle.std.proofs.Common.{◌≡◌, ℕ, Some, None, Option, sym, refl, ap,
 use Rattle.std.proofs.lemmas.Bool.Decides.{nat_tests}
 use Rattle.manager.specs.Answers.{holder_shown}
 use Rattle.manager.specs.Kinds.{Kind}
-use Rattle.gateway.specs.Automaton.{last}
-use Rattle.tie_rules.specs.Reading.{border, meaning_of}
+use Rattle.tie_rules.specs.Reading.{last, border, meaning_of}
 use Rattle.tie_rules.specs.State.{Tie}
 use Rattle.tie_rules.proofs.Questions.{own_holder, or_else, holder_from_parts}
 use Rattle.tie.specs.Places.{own, reachable}

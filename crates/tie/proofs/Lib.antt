@@ -1,6 +1,7 @@
+pub mod Answering
 pub mod Beginning
-pub mod Checked
 pub mod Holders
 pub mod Islands
+pub mod Moves
 pub mod Steps
 pub mod Stored

@@ -1,6 +1,4 @@
-pub mod Beginning
-pub mod Calling
+pub mod Moving
 pub mod Places
 pub mod Reading
-pub mod Stepping
 pub mod Things

@@ -1,8 +1,5 @@
 -- Where a site of a tie is, and which of an island's sites are the tie's. Assumes nothing.
 use Rattle.std.specs.Prelude.{◌≡◌, ℕ, ◌+◌, ◌-◌, ◌<◌, ◌≤◌, cond, Some, None, Option, nat_lt}
-use Rattle.manager.specs.Answers.{holder_shown}
-use Rattle.manager.specs.Meaning.{Meaning, most_sites}
-use Rattle.gateway.specs.Automaton.{last}
 use Rattle.tie.specs.declared.sites.Place.{Place}
 use Rattle.tie.specs.declared.sites.Place.TheVariants.{Left, Right}
 
@@ -16,11 +13,7 @@ abbrev pub own : (gateway offset : ℕ) → Option ℕ → Option ℕ
 own gateway offset None = None
 own gateway offset (Some i) = cond (nat_lt i gateway) (Some (i + offset)) None
 
--- A site, if it is among as many as a manager may have.
+-- A site, if it is among the first 64.
 abbrev pub reachable : Option ℕ → Option ℕ
 reachable None = None
-reachable (Some i) = cond (nat_lt i most_sites) (Some i) None
-
--- The site that holds in an island, by the tie's number, if it is a site of the tie.
-abbrev pub own_holder_of : (island : Meaning) (offset : ℕ) → Option ℕ
-own_holder_of island offset = reachable (own (last island) offset (holder_shown island))
+reachable (Some i) = cond (nat_lt i 64) (Some i) None

@@ -1,32 +1,39 @@
 // What an ask and a free do: a call of the site's island.
-ghost use Rattle.std.specs.Prelude.{◌≡◌};
-ghost use Rattle.tie.specs.Calling.{AsksInIsland, FreesInIsland};
+ghost use Rattle.std.specs.Prelude.{◌≡◌, ◌<◌};
+ghost use Rattle.manager.specs.Answers.{Call};
+ghost use Rattle.manager.specs.Meaning.{limit};
+ghost use Rattle.manager.specs.Refusals.{refused, ask_order, free_order};
+ghost use Rattle.tie_rules.specs.Invariant.{Sound};
+ghost use Rattle.tie_rules.specs.Reading.{meaning_of};
+ghost use Rattle.tie_rules.specs.Rules.{Asks, Frees};
+ghost use Rattle.tie.specs.Reading.{tie_of, older};
 
-use crate::parts::{ask_part, free_part};
 use crate::sites::Place;
 use crate::state::Tie;
-use manager::{Manager, Refusal, Status};
+use manager::interface::Manager;
+use manager::refusal::Refusal;
+use manager::status::Status;
 
 impl<L: Manager, R: Manager, O: Manager> Tie<L, R, O> {
     // Asks for a site in its island, and answers its status then. The age stays.
     pub(crate) fn ask_island(&mut self, site: usize) -> Result<Status, Refusal>
-        ensures asks_in_its_island { AsksInIsland L.Manager R.Manager O.Manager self.old site self.new result }
-        ensures keeps_age { self.new.age ≡ self.old.age }
+        ensures asks { Sound L.Manager R.Manager O.Manager (tie_of self.old) → self.old.age < limit → site < (meaning_of L.Manager R.Manager O.Manager (tie_of self.old)).sites → Call (refused ask_order (meaning_of L.Manager R.Manager O.Manager (tie_of self.old)) site) (Asks L.Manager R.Manager O.Manager (tie_of self.old) site (older (tie_of self.new))) ((meaning_of L.Manager R.Manager O.Manager (tie_of self.new)).status site) self.old self.new result }
+        ensures age { self.new.age ≡ self.old.age }
     {
         match self.place(site) {
-            Place::Left(site) => ask_part(&mut self.left, site),
-            Place::Right(site) => ask_part(&mut self.right, site),
+            Place::Left(site) => self.left.ask(site),
+            Place::Right(site) => self.right.ask(site),
         }
     }
 
     // Ends a site's hold in its island. The age stays.
     pub(crate) fn free_island(&mut self, site: usize) -> Result<(), Refusal>
-        ensures frees_in_its_island { FreesInIsland L.Manager R.Manager O.Manager self.old site self.new result }
-        ensures keeps_age { self.new.age ≡ self.old.age }
+        ensures frees { Sound L.Manager R.Manager O.Manager (tie_of self.old) → self.old.age < limit → site < (meaning_of L.Manager R.Manager O.Manager (tie_of self.old)).sites → Call (refused free_order (meaning_of L.Manager R.Manager O.Manager (tie_of self.old)) site) (Frees L.Manager R.Manager O.Manager (tie_of self.old) site (older (tie_of self.new))) tt self.old self.new result }
+        ensures age { self.new.age ≡ self.old.age }
     {
         match self.place(site) {
-            Place::Left(site) => free_part(&mut self.left, site),
-            Place::Right(site) => free_part(&mut self.right, site),
+            Place::Left(site) => self.left.free(site),
+            Place::Right(site) => self.right.free(site),
         }
     }
 }

@@ -1,24 +1,30 @@
 // The tie as the interface has it: again a manager, whatever its parts are.
-ghost use Rattle.tie.specs.Reading.{tied};
+ghost use Rattle.tie_rules.specs.Invariant.{Sound};
+ghost use Rattle.tie_rules.specs.Reading.{meaning_of};
+ghost use Rattle.tie_rules.specs.Rules.{Parks, Asks, Frees, Steps};
+ghost use Rattle.tie.specs.Reading.{tie_of};
 
 use crate::sites::{Place, own_holder};
 use crate::state::Tie;
-use manager::{LIMIT, Manager, Refusal, Status};
+use manager::checks::LIMIT;
+use manager::interface::Manager;
+use manager::refusal::Refusal;
+use manager::status::Status;
 
 impl<L: Manager, R: Manager, O: Manager> Manager for Tie<L, R, O> {
     const KIND: char = 'T';
 
-    ghost meaning = { (tied L.Manager R.Manager O.Manager).meaning };
+    ghost meaning = { λ m. meaning_of L.Manager R.Manager O.Manager (tie_of m) };
 
-    ghost sound = { (tied L.Manager R.Manager O.Manager).sound };
+    ghost sound = { λ m. Sound L.Manager R.Manager O.Manager (tie_of m) };
 
-    ghost parks = { (tied L.Manager R.Manager O.Manager).parks };
+    ghost parks = { λ m g n. Parks L.Manager R.Manager O.Manager (tie_of m) g (tie_of n) };
 
-    ghost asks = { (tied L.Manager R.Manager O.Manager).asks };
+    ghost asks = { λ m i n. Asks L.Manager R.Manager O.Manager (tie_of m) i (tie_of n) };
 
-    ghost frees = { (tied L.Manager R.Manager O.Manager).frees };
+    ghost frees = { λ m i n. Frees L.Manager R.Manager O.Manager (tie_of m) i (tie_of n) };
 
-    ghost steps = { (tied L.Manager R.Manager O.Manager).steps };
+    ghost steps = { λ m k g n. Steps L.Manager R.Manager O.Manager (tie_of m) k g (tie_of n) };
 
     fn sites(&self) -> usize {
         self.count_sites()

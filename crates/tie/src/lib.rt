@@ -1,12 +1,11 @@
 // The tie: two islands and an outer manager, each of any kind, that are one manager together.
 mod asking;
-mod calls;
+pub mod calls;
+mod gateways;
 mod making;
 mod parts;
 mod refusing;
 mod sites;
-mod state;
+pub mod state;
 mod stepping;
 mod things;
-
-pub use state::Tie;

@@ -1,25 +1,34 @@
-// The calls that a tie makes of its parts, whichever they are, each at the site or of the thing that it is told.
-ghost use Rattle.std.specs.Prelude.{◌<◌};
-ghost use Rattle.gateway.specs.Parts.{AskedAt, FreedAt};
+// What a tie asks of its parts, whichever it is.
+ghost use Rattle.std.specs.Prelude.{◌≡◌, ◌<◌};
+ghost use Rattle.manager.specs.Meaning.{is_holding};
+ghost use Rattle.tie_rules.specs.Reading.{last};
 
-use manager::{Manager, Refusal, Status};
+use manager::interface::Manager;
+use manager::status::Status;
 
-pub(crate) fn ask_part<M: Manager>(part: &mut M, site: usize) -> Result<Status, Refusal>
-    ensures asks_at_that_site { AskedAt M.Manager part.old site part.new result }
+// An island's gateway, its last site.
+pub(crate) fn gateway_of<I: Manager>(island: &I) -> usize
+    ensures { result ≡ last (I.Manager.meaning island.now) }
 {
-    part.ask(site)
+    island.sites() - 1
 }
 
-pub(crate) fn free_part<M: Manager>(part: &mut M, site: usize) -> Result<(), Refusal>
-    ensures frees_at_that_site { FreedAt M.Manager part.old site part.new result }
+// Is the site called in this part?
+pub(crate) fn is_called<M: Manager>(part: &M, site: usize) -> bool
+    ensures { site < (M.Manager.meaning part.now).sites → result ≡ (M.Manager.meaning part.now).called site }
 {
-    part.free(site)
+    match part.called(site) {
+        Ok(called) => called,
+        Err(_) => false,
+    }
 }
 
-// Parks a part at one of its sites, which is never refused.
-pub(crate) fn park_part<M: Manager>(part: &mut M, site: usize)
-    requires { site < (M.Manager.meaning part.old).sites }
-    ensures parks_at_that_site { M.Manager.parks part.old site part.new }
+// Does the site hold in this part?
+pub(crate) fn is_holding<M: Manager>(part: &M, site: usize) -> bool
+    ensures { site < (M.Manager.meaning part.now).sites → result ≡ is_holding ((M.Manager.meaning part.now).status site) }
 {
-    let _ = part.park(site);
+    match part.status(site) {
+        Ok(Status::Holding) => true,
+        _ => false,
+    }
 }

@@ -1,14 +1,16 @@
 // The sites of a tie: the left island's, then the right's, without the gateways.
-ghost use Rattle.std.specs.Prelude.{◌≡◌, ◌<◌};
-ghost use Rattle.manager.specs.Meaning.{most_sites};
-ghost use Rattle.gateway.specs.Automaton.{last};
-ghost use Rattle.tie_rules.specs.Reading.{border};
-ghost use Rattle.tie.specs.Places.{PlacedAt, own, own_holder_of};
-ghost use Rattle.tie.specs.Reading.{tie_of, tied};
+ghost use Rattle.std.specs.Prelude.{◌≡◌, ◌-◌, ◌<◌};
+ghost use Rattle.manager.specs.Answers.{holder_shown};
+ghost use Rattle.tie_rules.specs.Reading.{last, border, meaning_of};
+ghost use Rattle.tie.specs.Places.{PlacedAt, own, reachable};
+ghost use Rattle.tie.specs.Reading.{tie_of};
 
+use crate::parts::gateway_of;
 use crate::state::Tie;
-use gateway::last_site;
-use manager::{MOST_SITES, Manager};
+use manager::interface::Manager;
+
+// Only so many sites are reachable.
+const MOST_SITES: usize = 64;
 
 // Where a site of the tie is: its island, and its number there.
 #[derive(Clone, Copy)]
@@ -20,25 +22,25 @@ pub(crate) enum Place {
 impl<L: Manager, R: Manager, O: Manager> Tie<L, R, O> {
     // How many sites of the tie are the left island's; the right island's come after them.
     pub(crate) fn border(&self) -> usize
-        ensures gives_border { result ≡ border L.Manager R.Manager O.Manager (tie_of self.now) }
+        ensures { result ≡ border L.Manager R.Manager O.Manager (tie_of self.now) }
     {
-        last_site(&self.left)
+        gateway_of(&self.left)
     }
 
     pub(crate) fn count_sites(&self) -> usize
-        ensures counts_sites { result ≡ ((tied L.Manager R.Manager O.Manager).meaning self.now).sites }
+        ensures { result ≡ (meaning_of L.Manager R.Manager O.Manager (tie_of self.now)).sites }
     {
-        MOST_SITES.min(self.border() + last_site(&self.right))
+        MOST_SITES.min(self.border() + gateway_of(&self.right))
     }
 
     pub(crate) fn last_site(&self) -> usize
-        ensures gives_last_site { result ≡ last ((tied L.Manager R.Manager O.Manager).meaning self.now) }
+        ensures { result ≡ (meaning_of L.Manager R.Manager O.Manager (tie_of self.now)).sites - 1 }
     {
         self.count_sites() - 1
     }
 
     pub(crate) fn place(&self, site: usize) -> Place
-        ensures gives_its_place { PlacedAt (border L.Manager R.Manager O.Manager (tie_of self.now)) site result }
+        ensures { PlacedAt (border L.Manager R.Manager O.Manager (tie_of self.now)) site result }
     {
         let border = self.border();
         if site < border {
@@ -51,8 +53,8 @@ impl<L: Manager, R: Manager, O: Manager> Tie<L, R, O> {
 
 // The tie's number of a site of an island, whose numbers the tie raises by the offset. The gateway has none.
 pub(crate) fn own_site(gateway: usize, offset: usize, site: Option<usize>) -> Option<usize>
-    requires { (gateway < most_sites) × (offset < most_sites) }
-    ensures gives_the_number_in_the_tie { result ≡ own gateway offset site }
+    requires { (gateway < 64) × (offset < 64) }
+    ensures { result ≡ own gateway offset site }
 {
     match site {
         Some(site) if site < gateway => Some(site + offset),
@@ -62,10 +64,10 @@ pub(crate) fn own_site(gateway: usize, offset: usize, site: Option<usize>) -> Op
 
 // The site that holds in an island, by the tie's number, if it is a site of the tie.
 pub(crate) fn own_holder<I: Manager>(island: &I, offset: usize) -> Option<usize>
-    requires { offset < most_sites }
-    ensures gives_the_holder_in_the_tie { result ≡ own_holder_of (I.Manager.meaning island.now) offset }
+    requires { offset < 64 }
+    ensures { result ≡ reachable (own (last (I.Manager.meaning island.now)) offset (holder_shown (I.Manager.meaning island.now))) }
 {
-    match own_site(last_site(island), offset, island.holder()) {
+    match own_site(gateway_of(island), offset, island.holder()) {
         Some(site) if site < MOST_SITES => Some(site),
         _ => None,
     }

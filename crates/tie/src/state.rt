@@ -2,8 +2,8 @@
 ghost use Rattle.std.specs.Prelude.{◌≤◌};
 ghost use Rattle.manager.specs.Meaning.{limit};
 
-use gateway::Gateway;
-use manager::Manager;
+use manager::interface::Manager;
+use tie_rules::Gateway;
 
 // A tie lets the sites of two islands share one resource. An island is a manager whose last site, its gateway, stands
 // for the rest of the world. The gateways meet at the outer manager, the left one at its site 0, the right one at its

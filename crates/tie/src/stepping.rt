@@ -1,72 +1,51 @@
 // What a step does.
-ghost use Rattle.std.specs.Prelude.{◌≡◌, ◌<◌};
-ghost use Rattle.manager.specs.Meaning.{most_sites};
-ghost use Rattle.gateway.specs.Automaton.{link};
-ghost use Rattle.tie.specs.Stepping.{StepsIsland, StepsOuter, MovesGateway, CarriesOut};
+ghost use Rattle.std.specs.Prelude.{◌≡◌, ℕ, ◌<◌, None, Ok, Option};
+ghost use Rattle.manager.specs.Meaning.{limit};
+ghost use Rattle.manager.specs.Refusals.{refused, step_order};
+ghost use Rattle.tie_rules.specs.Invariant.{Sound};
+ghost use Rattle.tie_rules.specs.Reading.{last, meaning_of};
+ghost use Rattle.tie_rules.specs.Rules.{Steps};
+ghost use Rattle.tie.specs.Places.{own};
+ghost use Rattle.tie.specs.Reading.{tie_of, older};
 
+use crate::gateways::pass;
+use crate::parts::gateway_of;
 use crate::sites::own_site;
 use crate::state::Tie;
 use crate::things::Thing;
-use gateway::last_site;
-use manager::{Manager, Refusal};
+use manager::interface::Manager;
+use manager::refusal::Refusal;
 
 impl<L: Manager, R: Manager, O: Manager> Tie<L, R, O> {
     // Carries out thing k of those under way, and answers the site that came to hold, if one did. The age stays.
     pub(crate) fn carry_out(&mut self, k: u64) -> Result<Option<usize>, Refusal>
-        ensures carries_out_that_thing { CarriesOut L.Manager R.Manager O.Manager self.old k self.new result }
-        ensures keeps_age { self.new.age ≡ self.old.age }
+        ensures steps { Sound L.Manager R.Manager O.Manager (tie_of self.old) → self.old.age < limit → k < (meaning_of L.Manager R.Manager O.Manager (tie_of self.old)).underway → (grant : Option ℕ) × (result ≡ Ok grant) × Steps L.Manager R.Manager O.Manager (tie_of self.old) k grant (older (tie_of self.new)) }
+        ensures age { self.new.age ≡ self.old.age }
     {
         let border = self.border();
         match self.thing(k) {
             Thing::Left(k) => step_island(&mut self.left, 0, k),
             Thing::Right(k) => step_island(&mut self.right, border, k),
             Thing::Outer(k) => step_outer(&mut self.outer, k),
-            Thing::LeftMove => self.move_left(),
-            Thing::RightMove => self.move_right(),
+            Thing::LeftMove => pass(&mut self.left_gate, &mut self.left, &mut self.outer, 0),
+            Thing::RightMove => pass(&mut self.right_gate, &mut self.right, &mut self.outer, 1),
         }
-    }
-
-    // Makes the due move of the left gateway, whose outer site is 0, or of the right one, whose outer site is 1. It grants
-    // no site.
-    fn move_left(&mut self) -> Result<Option<usize>, Refusal>
-        ensures moves_left_gateway_at_0 { MovesGateway L.Manager O.Manager 0
-            (link self.old.left_gate self.old.left self.old.outer)
-            (link self.new.left_gate self.new.left self.new.outer) result }
-        ensures leaves_right_island { self.new.right ≡ self.old.right }
-        ensures leaves_right_gateway { self.new.right_gate ≡ self.old.right_gate }
-        ensures keeps_age { self.new.age ≡ self.old.age }
-    {
-        self.left_gate.advance(&mut self.left, &mut self.outer, 0)?;
-        Ok(None)
-    }
-
-    fn move_right(&mut self) -> Result<Option<usize>, Refusal>
-        ensures moves_right_gateway_at_1 { MovesGateway R.Manager O.Manager 1
-            (link self.old.right_gate self.old.right self.old.outer)
-            (link self.new.right_gate self.new.right self.new.outer) result }
-        ensures leaves_left_island { self.new.left ≡ self.old.left }
-        ensures leaves_left_gateway { self.new.left_gate ≡ self.old.left_gate }
-        ensures keeps_age { self.new.age ≡ self.old.age }
-    {
-        self.right_gate
-            .advance(&mut self.right, &mut self.outer, 1)?;
-        Ok(None)
     }
 }
 
 // Carries out thing k of an island, and answers the site of the tie that came to hold, if one did.
 fn step_island<I: Manager>(island: &mut I, offset: usize, k: u64) -> Result<Option<usize>, Refusal>
-    requires { offset < most_sites }
-    ensures steps_island_by_that_thing { StepsIsland I.Manager offset island.old k island.new result }
+    requires { offset < 64 }
+    ensures { I.Manager.sound island.old → refused step_order (I.Manager.meaning island.old) k ≡ None → (granted : Option ℕ) × (result ≡ Ok (own (last (I.Manager.meaning island.old)) offset granted)) × I.Manager.steps island.old k granted island.new }
 {
-    let gateway = last_site(island);
+    let gateway = gateway_of(island);
     let granted = island.step(k)?;
     Ok(own_site(gateway, offset, granted))
 }
 
 // Carries out thing k of the outer manager. Whoever holds there then is a gateway, so no site of the tie is granted.
 fn step_outer<O: Manager>(outer: &mut O, k: u64) -> Result<Option<usize>, Refusal>
-    ensures steps_outer_by_that_thing { StepsOuter O.Manager outer.old k outer.new result }
+    ensures { O.Manager.sound outer.old → refused step_order (O.Manager.meaning outer.old) k ≡ None → (granted : Option ℕ) × (result ≡ Ok None) × O.Manager.steps outer.old k granted outer.new }
 {
     outer.step(k)?;
     Ok(None)

@@ -1,11 +1,14 @@
 // The things under way in a tie: those of its parts, and the due moves of its gateways.
-ghost use Rattle.std.specs.Prelude.{◌≡◌};
-ghost use Rattle.tie_rules.specs.Reading.{left_due, right_due};
-ghost use Rattle.tie.specs.Reading.{tie_of, tied};
-ghost use Rattle.tie.specs.Things.{NumberedIfUnderWay};
+ghost use Rattle.std.specs.Prelude.{◌≡◌, ◌<◌};
+ghost use Rattle.tie_rules.specs.Reading.{left_side, right_side, meaning_of};
+ghost use Rattle.tie_rules.specs.Sides.{due};
+ghost use Rattle.tie.specs.Reading.{tie_of};
+ghost use Rattle.tie.specs.Things.{Numbered};
 
+use crate::gateways::is_due;
 use crate::state::Tie;
-use manager::{LIMIT, Manager};
+use manager::checks::LIMIT;
+use manager::interface::Manager;
 
 // A thing of a part, by its number there, or the due move of a gateway.
 #[derive(Clone, Copy)]
@@ -20,7 +23,7 @@ pub(crate) enum Thing {
 impl<L: Manager, R: Manager, O: Manager> Tie<L, R, O> {
     // How many things are under way, of which any past the limit are not counted.
     pub(crate) fn count_things(&self) -> u64
-        ensures counts_things_up_to_the_limit { result ≡ ((tied L.Manager R.Manager O.Manager).meaning self.now).underway }
+        ensures { result ≡ (meaning_of L.Manager R.Manager O.Manager (tie_of self.now)).underway }
     {
         let parts = self.left.underway() + self.right.underway() + self.outer.underway();
         let moves = self.left_due() as u64 + self.right_due() as u64;
@@ -30,7 +33,7 @@ impl<L: Manager, R: Manager, O: Manager> Tie<L, R, O> {
     // Which of the things under way thing k is: those of the left island come first, then the right's, the outer
     // manager's, the left gateway's due move and the right's.
     pub(crate) fn thing(&self, k: u64) -> Thing
-        ensures tells_which_thing { NumberedIfUnderWay L.Manager R.Manager O.Manager (tie_of self.now) k result }
+        ensures { k < (meaning_of L.Manager R.Manager O.Manager (tie_of self.now)).underway → Numbered L.Manager R.Manager O.Manager (tie_of self.now) k result }
     {
         let before_right = self.left.underway();
         let before_outer = before_right + self.right.underway();
@@ -50,15 +53,15 @@ impl<L: Manager, R: Manager, O: Manager> Tie<L, R, O> {
 
     // Is a move of the left gateway due?
     fn left_due(&self) -> bool
-        ensures tells_whether_left_is_due { result ≡ left_due L.Manager R.Manager O.Manager (tie_of self.now) }
+        ensures { result ≡ due (left_side L.Manager R.Manager O.Manager (tie_of self.now)) (O.Manager.meaning self.now.outer) }
     {
-        self.left_gate.is_due(&self.left, &self.outer, 0)
+        is_due(self.left_gate, &self.left, &self.outer, 0)
     }
 
     // Is a move of the right gateway due?
     fn right_due(&self) -> bool
-        ensures tells_whether_right_is_due { result ≡ right_due L.Manager R.Manager O.Manager (tie_of self.now) }
+        ensures { result ≡ due (right_side L.Manager R.Manager O.Manager (tie_of self.now)) (O.Manager.meaning self.now.outer) }
     {
-        self.right_gate.is_due(&self.right, &self.outer, 1)
+        is_due(self.right_gate, &self.right, &self.outer, 1)
     }
 }

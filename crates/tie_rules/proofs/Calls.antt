@@ -2,7 +2,7 @@
 use Rattle.std.proofs.Common.{◌≡◌, ℕ, ◌+◌, ◌<◌, ◌≤◌, None, Option, sym, refl, ◌∙◌, inl, inr, arith}
 use Rattle.manager.specs.Effects.{Asked, Freed, Stepped}
 use Rattle.manager.specs.Laws.{Lawful}
-use Rattle.manager.specs.Meaning.{Meaning, most_sites}
+use Rattle.manager.specs.Meaning.{Meaning}
 use Rattle.manager.specs.declared.status.Status.TheVariants.{Holding}
 use Rattle.tie_rules.specs.Reading.{lifted}
 use Rattle.tie_rules.specs.Sides.{Side, at}
@@ -17,7 +17,7 @@ use Rattle.tie_rules.proofs.Views.{On, Views, status_on, called_on, barred_at}
 module _ (a b : Side) (o : Meaning) (v : Linked a b o) where
   -- The island of side a is called at site i, its own, and keeps its gateway and the sites that never ask.
   module _ (m : Meaning) (lawful : Lawful m) (sites : m.sites ≡ a.island.sites) where
-    pub kept_linked : ((j : ℕ) → j ≡ a.gateway → Keeps a.island m j) → ((j : ℕ) → j < a.gateway → most_sites ≤ j + a.offset → Keeps a.island m j) → Linked (at a m a.gate) b o
+    pub kept_linked : ((j : ℕ) → j ≡ a.gateway → Keeps a.island m j) → ((j : ℕ) → j < a.gateway → 64 ≤ j + a.offset → Keeps a.island m j) → Linked (at a m a.gate) b o
     kept_linked gateway far =
         island_linked a b o v m a.gate lawful sites (stands_kept a.gate a.island m a.gateway o o a.post (gateway a.gateway refl) (keeps_same o a.post) v.here.stands) (λ j l k. keeps_idle (far j l k) (v.here.unreached j l k))
 

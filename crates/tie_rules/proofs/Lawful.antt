@@ -1,7 +1,6 @@
 -- The meaning of two linked sides is lawful.
 use Rattle.std.proofs.Common.{◌≡◌, ℕ, ◌+◌, ◌<◌, Bool, true, false, ◌⊎◌, sym, refl, ap, ◌∙◌, inl, inr, arith}
 use Rattle.std.proofs.lemmas.Bool.{cases_eq}
-use Rattle.std.proofs.lemmas.Bool.Decides.{nat_tests}
 use Rattle.counting.specs.Sums.{one_if}
 use Rattle.manager.specs.Laws.{Lawful}
 use Rattle.manager.specs.Meaning.{Meaning}
@@ -9,25 +8,25 @@ use Rattle.manager.specs.declared.status.Status.TheVariants.{Idle, Waiting, Hold
 use Rattle.tie_rules.specs.Invariant.{StandsAt}
 use Rattle.tie_rules.specs.Reading.{things}
 use Rattle.tie_rules.specs.Sides.{Side, Own, due}
-use Rattle.gateway.specs.declared.state.Gateway.{Gateway}
-use Rattle.gateway.specs.declared.state.Gateway.TheVariants.{Out, Coming, In, Leaving}
+use Rattle.tie_rules.specs.declared.Gateway.{Gateway}
+use Rattle.tie_rules.specs.declared.Gateway.TheVariants.{Out, Coming, In, Leaving}
 use Rattle.tie_rules.proofs.Barred.{barred_cases, barred_alone, barred_alone_there}
 use Rattle.tie_rules.proofs.Linked.{Sided, Linked, linked_turned, holder_inside, busy_own, inside_once}
 use Rattle.tie_rules.proofs.Views.{On, Views, views_turned, status_on, called_on, barred_at}
 
 -- A gateway that is called in its island, while no move of it is due, waits at the outer manager.
-called_waits : (g : Gateway) (a : Side) (o : Meaning) → a.post < o.sites → a.gate ≡ g → StandsAt g a.island a.gateway o a.post → due a o ≡ false → a.island.status a.gateway ≡ Holding → a.island.called a.gateway ≡ true → o.status a.post ≡ Waiting
-called_waits Out a o l e s d h c = absurd (grind (arith, nat_tests))
-called_waits Coming a o l e s d h c = grind (arith, nat_tests)
-called_waits In a o l e s d h c = absurd (grind (arith, nat_tests))
-called_waits Leaving a o l e s d h c = absurd (grind (arith, nat_tests))
+called_waits : (g : Gateway) (a : Side) (o : Meaning) → a.gate ≡ g → StandsAt g a.island a.gateway o a.post → due a o ≡ false → a.island.status a.gateway ≡ Holding → a.island.called a.gateway ≡ true → o.status a.post ≡ Waiting
+called_waits Out a o e s d h c = absurd (grind arith)
+called_waits Coming a o e s d h c = grind arith
+called_waits In a o e s d h c = absurd (grind arith)
+called_waits Leaving a o e s d h c = absurd (grind arith)
 
 -- A side that is called at the outer manager, while no move of its gateway is due, waits in its island.
-holder_waits : (g : Gateway) (a : Side) (o : Meaning) → a.post < o.sites → a.gate ≡ g → StandsAt g a.island a.gateway o a.post → due a o ≡ false → o.status a.post ≡ Holding → o.called a.post ≡ true → a.island.status a.gateway ≡ Waiting
-holder_waits Out a o l e s d h c = absurd (grind (arith, nat_tests))
-holder_waits Coming a o l e s d h c = absurd (grind (arith, nat_tests))
-holder_waits In a o l e s d h c = absurd (grind (arith, nat_tests))
-holder_waits Leaving a o l e s d h c = grind (arith, nat_tests)
+holder_waits : (g : Gateway) (a : Side) (o : Meaning) → a.gate ≡ g → StandsAt g a.island a.gateway o a.post → due a o ≡ false → o.status a.post ≡ Holding → o.called a.post ≡ true → a.island.status a.gateway ≡ Waiting
+holder_waits Out a o e s d h c = absurd (grind arith)
+holder_waits Coming a o e s d h c = absurd (grind arith)
+holder_waits In a o e s d h c = absurd (grind arith)
+holder_waits Leaving a o e s d h c = grind arith
 
 -- A gateway waits in its island only to leave, because the outer manager called it.
 waits_leaving : (g : Gateway) (a : Side) (o : Meaning) → StandsAt g a.island a.gateway o a.post → a.island.status a.gateway ≡ Waiting → (o.status a.post ≡ Holding) × (o.called a.post ≡ true)
@@ -98,8 +97,8 @@ module _ (a b : Side) (o : Meaning) (v : Linked a b o) where
   side_served i own w none_a none_b none_o da db = elim (island_serves a o v.here i (omega (arith, v.here.sites)) w none_a) [
     | inl p ↦ inl p
     | inr p ↦
-        let far = outer_serves (called_waits a.gate a o v.here.post refl v.here.stands da p.0 p.1) none_o in
-        let waits = holder_waits b.gate b o v.there.post refl v.there.stands db far.0 far.1 in
+        let far = outer_serves (called_waits a.gate a o refl v.here.stands da p.0 p.1) none_o in
+        let waits = holder_waits b.gate b o refl v.there.stands db far.0 far.1 in
         elim (island_serves b o v.there b.gateway (omega (arith, v.there.sites)) waits none_b) [ inl q ↦ inr q | inr q ↦ absurd (grind (arith, q.0)) ]
   ]
 

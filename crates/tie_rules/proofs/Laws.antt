@@ -12,8 +12,8 @@ use Rattle.tie_rules.specs.Reading.{border, left_side, right_side, lifted, meani
 use Rattle.tie_rules.specs.Rules.{AtSite, at_left, at_right, Asks, Frees, Parks, parks_left, parks_right, Steps, left_steps, right_steps, outer_steps, left_moves, right_moves}
 use Rattle.tie_rules.specs.Sides.{Side, at}
 use Rattle.tie_rules.specs.State.{Tie, next}
-use Rattle.gateway.specs.declared.state.Gateway.{Gateway}
-use Rattle.gateway.specs.declared.state.Gateway.TheVariants.{Out, In}
+use Rattle.tie_rules.specs.declared.Gateway.{Gateway}
+use Rattle.tie_rules.specs.declared.Gateway.TheVariants.{Out, In}
 use Rattle.manager.proofs.Accepted.{accepted_site, accepted_ask, accepted_free, accepted_step}
 use Rattle.tie_rules.proofs.Acting.{Acted, Ready, ask_acts, free_acts, step_acts, outer_step_acts, pass_acts}
 use Rattle.tie_rules.proofs.Lawful.{linked_lawful}
@@ -133,10 +133,10 @@ module _ {L R O : Type 0} (kl : Kind L) (kr : Kind R) (ko : Kind O) where
         let after = views_turned (at (left_side kl kr ko t) (kl.meaning l) Out) (at (right_side kl kr ko t) (kr.meaning r) In) (ko.meaning o') (meaning_of kl kr ko s) 0 (views_after kl kr ko t s begun.other_sites begun.sites) in
         subst (λ (u : Tie L R O). Sound kl kr ko u × Parked (meaning_of kl kr ko t) x (meaning_of kl kr ko u)) (sym e) (sound, begun.shown (meaning_of kl kr ko t) (meaning_of kl kr ko s) t.age before after)
 
-    -- A struct that is read as a tie is a lawful manager by the tie's rules.
-    pub tie_laws : {S : Type 0} (tie_of : S → Tie L R O) → Laws (λ s. meaning_of kl kr ko (tie_of s)) (λ s. Sound kl kr ko (tie_of s)) (λ s i s'. Parks kl kr ko (tie_of s) i (tie_of s')) (λ s i s'. Asks kl kr ko (tie_of s) i (tie_of s')) (λ s i s'. Frees kl kr ko (tie_of s) i (tie_of s')) (λ s k g s'. Steps kl kr ko (tie_of s) k g (tie_of s'))
-    tie_laws tie_of = record {
-      bounded = λ s. bounded kl kr ko (tie_of s) ll lr lo;
+    -- A struct that is read as a tie, and is never older than the limit, is a lawful manager by the tie's rules.
+    pub tie_laws : {S : Type 0} (tie_of : S → Tie L R O) → ((s : S) → (tie_of s).age ≤ limit) → Laws (λ s. meaning_of kl kr ko (tie_of s)) (λ s. Sound kl kr ko (tie_of s)) (λ s i s'. Parks kl kr ko (tie_of s) i (tie_of s')) (λ s i s'. Asks kl kr ko (tie_of s) i (tie_of s')) (λ s i s'. Frees kl kr ko (tie_of s) i (tie_of s')) (λ s k g s'. Steps kl kr ko (tie_of s) k g (tie_of s'))
+    tie_laws tie_of young = record {
+      bounded = λ s. bounded kl kr ko (tie_of s) ll lr lo (young s);
       lawful = λ s. lawful (tie_of s);
       parking = λ s s' g. park_lawful (tie_of s) (tie_of s') g;
       asking = λ s s' i. ask_lawful (tie_of s) (tie_of s') i;

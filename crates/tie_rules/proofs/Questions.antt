@@ -4,10 +4,9 @@ use Rattle.std.proofs.lemmas.Bool.{cases_eq, cases_lt, cond-true, cond-false, co
 use Rattle.counting.specs.Sums.{one_if}
 use Rattle.manager.specs.Answers.{answer, status_shown, called_shown, holder_shown, toll_shown}
 use Rattle.manager.specs.Kinds.{Kind}
-use Rattle.manager.specs.Meaning.{Meaning, limit, most_sites, is_holding}
+use Rattle.manager.specs.Meaning.{Meaning, limit, is_holding}
 use Rattle.manager.specs.declared.refusal.Refusal.{Refusal}
-use Rattle.tie_rules.specs.Reading.{border, left_side, right_side, meaning_of}
-use Rattle.gateway.specs.Automaton.{last}
+use Rattle.tie_rules.specs.Reading.{last, border, left_side, right_side, meaning_of}
 use Rattle.tie_rules.specs.Rules.{before_left_move, before_right_move}
 use Rattle.tie_rules.specs.Sides.{due}
 use Rattle.tie_rules.specs.State.{Tie}
@@ -25,7 +24,7 @@ module _ (m : Meaning) (i : ℕ) (l : i < m.sites) where
 -- The holder that an island shows, as the tie numbers it, unless it is the gateway or not reachable.
 abbrev pub own_holder : (gateway offset : ℕ) → Option ℕ → Option ℕ
 own_holder gateway offset None = None
-own_holder gateway offset (Some i) = cond (ltb i gateway && ltb (i + offset) most_sites) (Some (i + offset)) None
+own_holder gateway offset (Some i) = cond (ltb i gateway && ltb (i + offset) 64) (Some (i + offset)) None
 
 abbrev pub or_else : Option ℕ → Option ℕ → Option ℕ
 or_else None q = q
@@ -33,24 +32,24 @@ or_else (Some i) q = Some i
 
 -- What own_holder finds: the first of the tie's own sites that passes the test, or none.
 abbrev FindsOwn : (ℕ → Bool) → (gateway offset : ℕ) → Option ℕ → Type 0
-FindsOwn test n off (Some y) = (i : ℕ) × (i < n) × (y ≡ i + off) × (y < most_sites) × (test i ≡ true) × ((j : ℕ) → j < i → test j ≡ false)
-FindsOwn test n off None = (j : ℕ) → j < n → j + off < most_sites → test j ≡ false
+FindsOwn test n off (Some y) = (i : ℕ) × (i < n) × (y ≡ i + off) × (y < 64) × (test i ≡ true) × ((j : ℕ) → j < i → test j ≡ false)
+FindsOwn test n off None = (j : ℕ) → j < n → j + off < 64 → test j ≡ false
 
 own_finds : (test : ℕ → Bool) (n off sites : ℕ) → n ≤ sites → (p : Option ℕ) → Finds test sites p → FindsOwn test n off (own_holder n off p)
 own_finds test n off sites most None none = λ j l k. none j (omega arith)
 own_finds test n off sites most (Some i) (l, passes, before) =
-    cond_both (ltb i n && ltb (i + off) most_sites) (Some (i + off)) None (FindsOwn test n off) (λ e.
-    let both = and_parts (ltb i n) (ltb (i + off) most_sites) e in
-    (i, ltb-true i n both.0, refl, ltb-true (i + off) most_sites both.1, passes, before)) (λ e j k far. elim (cases_lt j i) [
+    cond_both (ltb i n && ltb (i + off) 64) (Some (i + off)) None (FindsOwn test n off) (λ e.
+    let both = and_parts (ltb i n) (ltb (i + off) 64) e in
+    (i, ltb-true i n both.0, refl, ltb-true (i + off) 64 both.1, passes, before)) (λ e j k far. elim (cases_lt j i) [
       | inl h ↦ before j h
-      | inr h ↦ elim (and_cases (ltb i n) (ltb (i + off) most_sites) e) [
+      | inr h ↦ elim (and_cases (ltb i n) (ltb (i + off) 64) e) [
         | inl q ↦ absurd (omega (arith, ltb-false i n q))
-        | inr q ↦ absurd (omega (arith, ltb-false (i + off) most_sites q))
+        | inr q ↦ absurd (omega (arith, ltb-false (i + off) 64 q))
       ]
     ])
 
 -- A test that is one below n and another from n on.
-both_find : (test near far : ℕ → Bool) (n k : ℕ) → ((x : ℕ) → x < n → test x ≡ near x) → ((x : ℕ) → n ≤ x → test x ≡ far (x - n)) → (p q : Option ℕ) → FindsOwn near n 0 p → FindsOwn far k n q → Finds test (min most_sites (n + k)) (or_else p q)
+both_find : (test near far : ℕ → Bool) (n k : ℕ) → ((x : ℕ) → x < n → test x ≡ near x) → ((x : ℕ) → n ≤ x → test x ≡ far (x - n)) → (p q : Option ℕ) → FindsOwn near n 0 p → FindsOwn far k n q → Finds test (min 64 (n + k)) (or_else p q)
 both_find test near far n k below above (Some y) q (i, l, is, small, passes, before) f =
     (omega arith, below y (omega arith) ∙ ap near (omega arith) ∙ passes, λ j h. below j (omega arith) ∙ before j (omega arith))
 both_find test near far n k below above None (Some y) none (i, l, is, small, passes, before) = (

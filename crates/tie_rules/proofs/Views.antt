@@ -1,7 +1,7 @@
 -- What a tie's meaning shows of its two sides, told alike from either side.
 use Rattle.std.proofs.Common.{◌≡◌, ℕ, ◌+◌, ◌-◌, ◌*◌, ◌<◌, min, cond, ltb, ◌⊎◌, refl, ap, ◌∙◌, inl, inr, arith}
 use Rattle.std.proofs.lemmas.Bool.{cases_lt, cond-true, cond-false, lt-ltb, le-ltb}
-use Rattle.manager.specs.Meaning.{Meaning, limit, most_sites}
+use Rattle.manager.specs.Meaning.{Meaning, limit}
 use Rattle.tie_rules.specs.Reading.{joined, largest, things}
 use Rattle.tie_rules.specs.Sides.{Side, Own, moves, barred_on}
 
@@ -21,7 +21,7 @@ pub record Views (m : Meaning) (a b : Side) (o : Meaning) (old : ℕ) : Type 0 w
   pub there : Shows m b a o
   pub side : (x : ℕ) → x < m.sites → On a x ⊎ On b x
   pub apart : (i j : ℕ) → Own a i → Own b j → i + a.offset ≡ j + b.offset → ⊥
-  pub sites : m.sites ≡ min most_sites (a.gateway + b.gateway)
+  pub sites : m.sites ≡ min 64 (a.gateway + b.gateway)
   pub underway : m.underway ≡ min limit (things a b o)
   pub work : m.work ≡ a.island.work + b.island.work + o.work + (largest a b o + 1) * moves a b
   pub toll : m.toll ≡ 9 * (largest a b o + 1)

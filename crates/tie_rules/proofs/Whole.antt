@@ -2,26 +2,15 @@
 use Rattle.std.proofs.Common.{◌≡◌, ℕ, ◌+◌, ◌-◌, ◌<◌, ◌≤◌, sym, refl, ap, subst, ap₂, arith}
 use Rattle.manager.specs.Kinds.{Kind, Obeys}
 use Rattle.manager.specs.Laws.{Bounded}
-use Rattle.manager.specs.Meaning.{Meaning}
+use Rattle.manager.specs.Meaning.{Meaning, limit}
 use Rattle.tie_rules.specs.Invariant.{Stands, Unreached, Sound}
 use Rattle.tie_rules.specs.Reading.{joined, border, left_side, right_side, meaning_of}
 use Rattle.tie_rules.specs.Sides.{Side, at}
 use Rattle.tie_rules.specs.State.{Tie, next}
-use Rattle.gateway.specs.declared.state.Gateway.{Gateway}
-use Rattle.tie_rules.proofs.Acting.{Acted, part_side}
-use Rattle.tie_rules.proofs.Linked.{Sided, Linked, linked_turned}
+use Rattle.tie_rules.specs.declared.Gateway.{Gateway}
+use Rattle.tie_rules.proofs.Acting.{Acted}
+use Rattle.tie_rules.proofs.Linked.{Linked, linked_turned}
 use Rattle.tie_rules.proofs.Views.{On, Views, views_turned, joined_views}
-
--- A sound island whose gateway stands as its state says is a side. A gateway's outer site is one of the two that every
--- manager has.
-part_sided : {I O : Type 0} (ki : Kind I) (ko : Kind O) → Obeys ki → Obeys ko → (p : I) (o : O) (gate : Gateway) (post offset : ℕ) → post < 2 → ki.sound p → Stands (part_side ki p gate post offset) (ko.meaning o) → Unreached (part_side ki p gate post offset) → Sided (part_side ki p gate post offset) (ko.meaning o)
-part_sided ki ko laws outer_laws p o gate post offset one_of_two sound stands unreached = record {
-  lawful = laws.lawful p sound;
-  sites = omega (arith, (laws.bounded p).fewest);
-  post = omega (arith, (outer_laws.bounded o).fewest);
-  stands = stands;
-  unreached = unreached;
-}
 
 module _ {L R O : Type 0} (kl : Kind L) (kr : Kind R) (ko : Kind O) (t : Tie L R O) where
   -- The sides of a later tie, by those of this one: no part has changed its number of sites.
@@ -72,18 +61,31 @@ module _ {L R O : Type 0} (kl : Kind L) (kr : Kind R) (ko : Kind O) (t : Tie L R
 
   module _ (ll : Obeys kl) (lr : Obeys kr) (lo : Obeys ko) where
     -- An island has a gateway and another site, so the tie has two sites at least.
-    pub bounded : Bounded (meaning_of kl kr ko t)
-    bounded = record {
+    pub bounded : t.age ≤ limit → Bounded (meaning_of kl kr ko t)
+    bounded young = record {
       fewest = omega (arith, (ll.bounded t.left).fewest, (lr.bounded t.right).fewest);
       most = omega arith;
       underway = omega arith;
+      age = young;
     }
 
     module _ (v : Sound kl kr ko t) where
       pub sound_linked : Linked (left_side kl kr ko t) (right_side kl kr ko t) (ko.meaning t.outer)
       sound_linked = record {
-        here = part_sided kl ko ll lo t.left t.outer t.left_gate 0 0 (omega arith) v.left v.left_stands v.left_unreached;
-        there = part_sided kr ko lr lo t.right t.outer t.right_gate 1 (border kl kr ko t) (omega arith) v.right v.right_stands v.right_unreached;
+        here = record {
+          lawful = ll.lawful t.left v.left;
+          sites = omega (arith, (ll.bounded t.left).fewest);
+          post = omega (arith, (lo.bounded t.outer).fewest);
+          stands = v.left_stands;
+          unreached = v.left_unreached;
+        };
+        there = record {
+          lawful = lr.lawful t.right v.right;
+          sites = omega (arith, (lr.bounded t.right).fewest);
+          post = omega (arith, (lo.bounded t.outer).fewest);
+          stands = v.right_stands;
+          unreached = v.right_unreached;
+        };
         outer = lo.lawful t.outer v.outer;
         apart = λ e. omega arith;
         unused = λ j l p q. v.outer_unused j l (omega arith);

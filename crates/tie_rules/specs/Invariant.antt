@@ -1,13 +1,13 @@
 -- What every call keeps true of a tie, and what the laws of a manager follow from. Assumes nothing.
 use Rattle.std.specs.Prelude.{◌≡◌, ℕ, ◌+◌, ◌<◌, ◌≤◌, true, ◌⊎◌}
 use Rattle.manager.specs.Kinds.{Kind}
-use Rattle.manager.specs.Meaning.{Meaning, most_sites}
+use Rattle.manager.specs.Meaning.{Meaning}
 use Rattle.manager.specs.declared.status.Status.TheVariants.{Idle, Waiting, Holding}
 use Rattle.tie_rules.specs.Reading.{left_side, right_side}
 use Rattle.tie_rules.specs.Sides.{Side}
 use Rattle.tie_rules.specs.State.{Tie}
-use Rattle.gateway.specs.declared.state.Gateway.{Gateway}
-use Rattle.gateway.specs.declared.state.Gateway.TheVariants.{Out, Coming, In, Leaving}
+use Rattle.tie_rules.specs.declared.Gateway.{Gateway}
+use Rattle.tie_rules.specs.declared.Gateway.TheVariants.{Out, Coming, In, Leaving}
 
 -- What a gateway's state says of it as site g of its island m and as site p of the outer manager o. That it was called
 -- lasts until it frees, and it frees by its own move alone.
@@ -20,9 +20,9 @@ StandsAt Leaving m g o p = ((m.status g ≡ Waiting) ⊎ (m.status g ≡ Holding
 abbrev pub Stands : Side → (o : Meaning) → Type 0
 Stands a o = StandsAt a.gate a.island a.gateway o a.post
 
--- The sites of the island that are not reachable never ask.
+-- The sites of the island past the tie's first 64 never ask.
 abbrev pub Unreached : Side → Type 0
-Unreached a = (i : ℕ) → i < a.gateway → most_sites ≤ i + a.offset → a.island.status i ≡ Idle
+Unreached a = (i : ℕ) → i < a.gateway → 64 ≤ i + a.offset → a.island.status i ≡ Idle
 
 module _ {L R O : Type 0} (kl : Kind L) (kr : Kind R) (ko : Kind O) where
   pub record Sound (t : Tie L R O) : Type 0 where

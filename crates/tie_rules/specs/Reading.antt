@@ -1,11 +1,14 @@
 -- What a tie means as a manager, from the meanings of its parts alone. Assumes nothing.
-use Rattle.std.specs.Prelude.{ℕ, ◌+◌, ◌-◌, ◌*◌, min, max, Bool, cond, Some, None, Option, ◌==◌, nat_lt}
+use Rattle.std.specs.Prelude.{ℕ, ◌+◌, ◌-◌, ◌*◌, min, max, cond, Some, None, Option, ◌==◌, nat_lt}
 use Rattle.counting.specs.Sums.{one_if}
 use Rattle.manager.specs.Kinds.{Kind}
-use Rattle.manager.specs.Meaning.{Meaning, limit, most_sites}
-use Rattle.gateway.specs.Automaton.{last}
+use Rattle.manager.specs.Meaning.{Meaning, limit}
 use Rattle.tie_rules.specs.Sides.{Side, due, moves, barred_on}
 use Rattle.tie_rules.specs.State.{Tie}
+
+-- An island's last site is its gateway.
+abbrev pub last : Meaning → ℕ
+last m = m.sites - 1
 
 -- The largest toll of the three parts.
 abbrev pub largest : (a b : Side) (o : Meaning) → ℕ
@@ -15,11 +18,11 @@ largest a b o = max a.island.toll (max b.island.toll o.toll)
 abbrev pub things : (a b : Side) (o : Meaning) → ℕ
 things a b o = a.island.underway + b.island.underway + o.underway + one_if (due a o) + one_if (due b o)
 
--- A left and a right side joined. The tie's sites are the left island's, then the right's, without the gateways; only as
--- many as a manager may have are reachable. Each move of a gateway costs one call of a part, so it is worth one more than the largest toll.
+-- A left and a right side joined. The tie's sites are the left island's, then the right's, without the gateways; only the
+-- first 64 are reachable. Each move of a gateway costs one call of a part, so it is worth one more than the largest toll.
 abbrev pub joined : (a b : Side) (o : Meaning) (age : ℕ) → Meaning
 joined a b o age = record {
-  sites = min most_sites (a.gateway + b.gateway);
+  sites = min 64 (a.gateway + b.gateway);
   status = λ i. cond (nat_lt i a.gateway) (a.island.status i) (b.island.status (i - a.gateway));
   called = λ i. cond (nat_lt i a.gateway) (a.island.called i) (b.island.called (i - a.gateway));
   barred = λ i. cond (nat_lt i a.gateway) (barred_on a b o i) (barred_on b a o (i - a.gateway));
@@ -44,13 +47,6 @@ module _ {L R O : Type 0} (kl : Kind L) (kr : Kind R) (ko : Kind O) (t : Tie L R
 
   abbrev pub right_side : Side
   right_side = record { island = kr.meaning t.right; gate = t.right_gate; gateway = last (kr.meaning t.right); post = 1; offset = border }
-
-  -- Is a move of the left gateway due, or of the right one?
-  abbrev pub left_due : Bool
-  left_due = due left_side (ko.meaning t.outer)
-
-  abbrev pub right_due : Bool
-  right_due = due right_side (ko.meaning t.outer)
 
   abbrev pub meaning_of : Meaning
   meaning_of = joined left_side right_side (ko.meaning t.outer) t.age

@@ -1,10 +1,9 @@
 -- One side of a tie, as the other side and the outer manager meet it. Assumes nothing.
 use Rattle.std.specs.Prelude.{ℕ, ◌+◌, ◌<◌, Bool, true, false, cond, ◌||◌, is_some}
 use Rattle.manager.specs.Answers.{first}
-use Rattle.manager.specs.Meaning.{Meaning, most_sites, is_holding}
-use Rattle.gateway.specs.Automaton.{due as due_between}
-use Rattle.gateway.specs.declared.state.Gateway.{Gateway}
-use Rattle.gateway.specs.declared.state.Gateway.TheVariants.{Out, Coming, In, Leaving}
+use Rattle.manager.specs.Meaning.{Meaning, is_holding}
+use Rattle.tie_rules.specs.declared.Gateway.{Gateway}
+use Rattle.tie_rules.specs.declared.Gateway.TheVariants.{Out, Coming, In, Leaving}
 
 -- A side is an island with its gateway.
 pub record Side : Type 0 where
@@ -21,9 +20,9 @@ pub record Side : Type 0 where
 abbrev pub at : Side → Meaning → Gateway → Side
 at a m g = record { island = m; gate = g; gateway = a.gateway; post = a.post; offset = a.offset }
 
--- Site i of the island is a site of the tie: it is not the gateway, and it is among the reachable.
+-- Site i of the island is a site of the tie: it is not the gateway, and it is among the first 64.
 abbrev pub Own : Side → ℕ → Type 0
-Own a i = (i < a.gateway) × (i + a.offset < most_sites)
+Own a i = (i < a.gateway) × (i + a.offset < 64)
 
 -- The resource is in the island, the gateway being in or leaving.
 abbrev pub inside : Gateway → Bool
@@ -34,7 +33,12 @@ inside Leaving = true
 
 -- Is a move of the gateway due? The outer manager means o.
 abbrev pub due : Side → (o : Meaning) → Bool
-due a o = due_between a.gate a.island a.gateway o a.post
+due a o = elim a.gate [
+  | Out ↦ a.island.called a.gateway
+  | Coming ↦ is_holding (o.status a.post)
+  | In ↦ o.called a.post
+  | Leaving ↦ is_holding (a.island.status a.gateway)
+]
 
 -- A side is settled if one of its own sites holds, or its gateway is barred so that one of them holds first. It stays
 -- so until a site frees.

@@ -1,5 +1,5 @@
 // What a roll answers: how many elements it has and can still take, which they are, and how many tell a site.
-ghost use Rattle.std.specs.Prelude.{◌≡◌, ◌==◌};
+ghost use Rattle.std.specs.Prelude.{◌≡◌};
 ghost use Rattle.std.specs.List.{slice_get};
 ghost use Rattle.roll.specs.Contents.{written, room_of};
 ghost use Rattle.roll.specs.Tellers.{tellers};
@@ -10,28 +10,21 @@ use crate::telling::TellsSite;
 impl<'a, T: Copy> Roll<'a, T> {
     // How many elements there are.
     pub fn len(&self) -> usize
-        ensures tells_how_many { result ≡ self.now.len }
+        ensures { result ≡ self.now.len }
     {
         self.len
     }
 
-    pub fn is_empty(&self) -> bool
-        ensures tells_whether_none { result ≡ (self.now.len == 0) }
-    {
-        let elements = self.len();
-        elements == 0
-    }
-
     // How many places are free.
     pub fn room(&self) -> usize
-        ensures tells_the_room { result ≡ room_of self.now }
+        ensures { result ≡ room_of self.now }
     {
         self.items.len() - self.len
     }
 
     // The element at a place, counting from 0, if there is one.
     pub fn get(&self, place: usize) -> Option<T>
-        ensures gives_the_element_there { result ≡ slice_get (written self.now) place }
+        ensures { result ≡ slice_get (written self.now) place }
     {
         if place < self.len {
             self.items.get(place).copied()
@@ -44,7 +37,7 @@ impl<'a, T: Copy> Roll<'a, T> {
 impl<'a, T: Copy + TellsSite> Roll<'a, T> {
     // How many elements tell the site.
     pub fn count(&self, site: usize) -> usize
-        ensures counts_those_that_tell_the_site { result ≡ tellers T.TellsSite.told (written self.now) site }
+        ensures { result ≡ tellers T.TellsSite.told (written self.now) site }
     {
         let mut found = 0;
         let items = &*self.items;

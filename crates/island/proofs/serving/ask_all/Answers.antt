@@ -6,4 +6,4 @@ pub loop-site-init : goal.loop-site-init
 loop-site-init g c = goes_nowhere g.M.Manager g.met.M.Manager.laws (records_of c.args.broker.now)
 
 pub loop-site-preserved : goal.loop-site-preserved
-loop-site-preserved g c = goes_onward g.M.Manager g.met.M.Manager.laws c.loop-site.invariant c.ask_unless_served.ensures.goes_on_with_its_history
+loop-site-preserved g c = goes_onward g.M.Manager g.met.M.Manager.laws c.loop-site.invariant c.ask_again.ensures.goes_on

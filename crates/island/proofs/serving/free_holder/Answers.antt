@@ -3,7 +3,7 @@ use Rattle.history.proofs.Every.{goes_nowhere, one_call}
 use Rattle.island.proofs.serving.free_holder.Goals as goal
 
 pub returns-in-Some : goal.returns-in-Some
-returns-in-Some g c = record { goes_on_with_its_history = λ w. one_call g.M.Manager g.met.M.Manager.laws (c.free.ensures.is_one_call w).performed }
+returns-in-Some g c = record { goes_on = λ w. one_call g.M.Manager g.met.M.Manager.laws (c.free.ensures.is_one_call w).performed }
 
 pub returns-in-default : goal.returns-in-default
-returns-in-default g c = record { goes_on_with_its_history = goes_nowhere g.M.Manager g.met.M.Manager.laws (records_of c.args.broker.now) }
+returns-in-default g c = record { goes_on = goes_nowhere g.M.Manager g.met.M.Manager.laws (records_of c.args.broker.now) }

@@ -9,4 +9,4 @@ pub loop-preserved : goal.loop-preserved
 loop-preserved g c =
     let kind = g.M.Manager in
     let laws = g.met.M.Manager.laws in
-    goes_onward kind laws (goes_onward kind laws (goes_onward kind laws c.loop.invariant c.ask_all.ensures.goes_on_with_its_history) (λ w. one_call kind laws (c.drain.ensures.is_one_call w).performed)) c.free_holder.ensures.goes_on_with_its_history
+    goes_onward kind laws (goes_onward kind laws (goes_onward kind laws c.loop.invariant c.ask_all.ensures.goes_on) (λ w. one_call kind laws (c.drain.ensures.is_one_call w).2)) c.free_holder.ensures.goes_on

@@ -5,4 +5,4 @@ use Rattle.manager.specs.declared.status.Status.TheVariants.{Idle}
 use Rattle.manager.proofs.holder.holds_at.Goals as goal
 
 pub returns-in-None : goal.returns-in-None
-returns-in-None c = record { tells_whether_it_holds = sym (ap is_holding (get_or_past c.args.status.now c.args.site Idle (search rules))) }
+returns-in-None c = sym (ap is_holding (get_or_past c.args.status.now c.args.site Idle (search rules)))

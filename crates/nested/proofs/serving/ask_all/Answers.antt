@@ -9,4 +9,4 @@ pub loop-site-preserved : goal.loop-site-preserved
 loop-site-preserved g c =
     let kind = g.M.Manager in
     let laws = g.met.M.Manager.laws in
-    goes_onward kind laws c.loop-site.invariant (λ w. one_call kind laws (c.ask.ensures.is_one_call w).performed)
+    goes_onward kind laws c.loop-site.invariant (λ w. one_call kind laws (c.ask.ensures.is_one_call w).1.performed)

@@ -6,7 +6,7 @@ pub returns-in-Some : goal.returns-in-Some
 returns-in-Some g c =
     let kind = g.M.Manager in
     let laws = g.met.M.Manager.laws in
-    record { goes_on_with_its_history = goes_onward kind laws (λ w. one_call kind laws (c.free.ensures.is_one_call w).performed) c.ask_unless_served.ensures.goes_on_with_its_history }
+    record { goes_on = goes_onward kind laws (λ w. one_call kind laws (c.free.ensures.is_one_call w).performed) c.ask_unserved.ensures.goes_on }
 
 pub returns-in-default : goal.returns-in-default
-returns-in-default g c = record { goes_on_with_its_history = goes_nowhere g.M.Manager g.met.M.Manager.laws (records_of c.args.broker.now) }
+returns-in-default g c = record { goes_on = goes_nowhere g.M.Manager g.met.M.Manager.laws (records_of c.args.broker.now) }

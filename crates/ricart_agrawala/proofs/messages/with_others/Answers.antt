@@ -1,6 +1,5 @@
 use Rattle.std.proofs.Common.{◌+◌, length, sym, ap, ◌∙◌, subst, arith, length-set}
-use Rattle.ricart_agrawala.specs.Rows.{Written}
-use Rattle.ricart_agrawala.proofs.Rows.{written_more, written_own}
+use Rattle.ricart_agrawala.proofs.Rows.{Written, written_more, written_own}
 use Rattle.ricart_agrawala.proofs.messages.with_others.Goals as goal
 use Rattle.ricart_agrawala.proofs.messages.with_others.Goals.{then-other-site, else-other-site}
 

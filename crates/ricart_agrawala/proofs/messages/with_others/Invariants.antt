@@ -1,7 +1,6 @@
-use Rattle.std.proofs.Common.{◌≡◌, length}
-use Rattle.manager.specs.Meaning.{most_island_sites}
-use Rattle.ricart_agrawala.specs.Rows.{Written}
+use Rattle.std.proofs.Common.{◌≡◌, ℕ, cond, not, ◌&&◌, eqb, ltb, length, get_or}
+use Rattle.ricart_rules.specs.declared.Stage.TheVariants.{Unasked}
 use Rattle.ricart_agrawala.proofs.messages.with_others.Given as goal
 
 abbrev pub invariant-loop-other : goal.invariant-loop-other
-invariant-loop-other l = (length l.stages ≡ most_island_sites) × Written l.initial.stages l.stages l.other l.site l.stage
+invariant-loop-other l = (length l.stages ≡ 16) × ((j : ℕ) → get_or l.stages j Unasked ≡ cond (ltb j l.other && not (eqb j l.site)) l.stage (get_or l.initial.stages j Unasked))

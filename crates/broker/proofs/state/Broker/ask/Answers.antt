@@ -1,27 +1,58 @@
-use Rattle.std.proofs.Common.{◌<◌, length, refl, ap, arith}
+use Rattle.std.proofs.Common.{◌≡◌, [], ◌∷◌, Err, sym, refl, ap, ◌∙◌}
+use Rattle.std.proofs.lemmas.Result.{err_from_is_err_and}
+use Rattle.manager.specs.Refusals.{ask_order}
+use Rattle.manager.specs.declared.status.Status.TheVariants.{Holding}
 use Rattle.roll.specs.Contents.{room_of}
 use Rattle.history.specs.Calls.{ask}
-use Rattle.broker.specs.Outcome.{asked_grants}
-use Rattle.broker.proofs.Answering.{handed_on}
-use Rattle.broker.proofs.Outcomes.{refused_granting, asked_outcome, is_possible}
+use Rattle.history.specs.Records.{grant, grants_by_ask}
+use Rattle.broker.proofs.Answering.{accepted, accepted_value, refusing, has_room}
+use Rattle.broker.proofs.Outcomes.{refused_outcome, asked_outcome, granted_at_once, not_granted}
+use Rattle.broker.proofs.Rolling.{rolled_none, rolled_push, not_full}
 use Rattle.broker.proofs.state.Broker.ask.Goals as goal
 
 pub returns-in-err-may-ask : goal.returns-in-err-may-ask
 returns-in-err-may-ask g c = record {
   is_one_call = λ w.
+      let roll = c.args.roll.now in
       let e = c.in-err-may-ask.field-0.0 in
-      let failed = handed_on c.from-residual.result e c.from-residual.ensures.1 in
-      refused_granting g.M.Manager g.met.M.Manager.laws c.args.self.now c.args.roll.now (ask c.args.site (room_of c.args.roll.now)) _ _ _ e w failed c.in-err-may-ask.ensures.refuses_what_is_due (ap (asked_grants c.args.site) failed);
+      let due = refusing _ _ e (c.in-err-may-ask.ensures.answers w) in
+      let p = err_from_is_err_and c.from-residual.result c.from-residual.ensures.1 in
+      ([], refused_outcome g.M.Manager g.met.M.Manager.laws c.args.self.now (ask c.args.site (room_of roll)) _ _ _ e w (p.1 ∙ ap Err p.2) due refl, rolled_none roll);
 }
 
-pub returns : goal.returns
-returns g c = record {
+pub returns-in-Holding : goal.returns-in-Holding
+returns-in-Holding g c = record {
   is_one_call = λ w.
       let kind = g.M.Manager in
       let laws = g.met.M.Manager.laws in
       let b = c.args.self.now in
+      let roll = c.args.roll.now in
       let i = c.args.site in
-      let possible = is_possible kind laws b.manager i (c.in-ok-may-ask.ensures.allows_only_sites refl) in
-      let within : i < length b.asked = omega (arith, possible, c.note_ask.ensures.has_a_place_for_each_site) in
-      asked_outcome kind laws b c.note_ask.new.self c.ask.new.self w c.args.roll.now c.add_if_served.new.roll i c.in-ok-status.status c.in-ok-may-ask.ensures.refuses_what_is_due (c.in-ok-status.ensures.asks_or_refuses w.sound) within c.note_ask.ensures.counts_the_ask (c.add_if_served.ensures.adds_grant_if_holding possible);
+      let m = c.ask.new.self in
+      let ok = accepted _ _ _ (c.in-ok-may-ask.ensures.answers w) in
+      let called = c.in-ok-status.ensures w.sound in
+      let holds = sym (accepted_value _ _ _ called.answers) ∙ c.in-Holding.is in
+      let free = has_room ask_order (kind.meaning b.manager) i (room_of roll) ok in
+      let p = c.push.ensures in (
+        grants_by_ask kind i m,
+        asked_outcome kind laws b c.note_ask.new.self i (room_of roll) m c.in-ok-status.status w ok called (c.in-ok-may-ask.ensures.site refl) c.note_ask.ensures.wide c.note_ask.ensures.noted,
+        rw (granted_at_once kind laws i m holds) (rolled_push roll c.push.new.self (grant i 0) (not_full roll free) p.contents p.grows p.memory p.lender),
+      );
+}
+
+pub returns-in-default : goal.returns-in-default
+returns-in-default g c = record {
+  is_one_call = λ w.
+      let kind = g.M.Manager in
+      let laws = g.met.M.Manager.laws in
+      let roll = c.args.roll.now in
+      let i = c.args.site in
+      let m = c.ask.new.self in
+      let ok = accepted _ _ _ (c.in-ok-may-ask.ensures.answers w) in
+      let called = c.in-ok-status.ensures w.sound in
+      let waits = λ (h : (kind.meaning m).status i ≡ Holding). c.in-default.not-Holding (accepted_value _ _ _ called.answers ∙ h) in (
+        grants_by_ask kind i m,
+        asked_outcome kind laws c.args.self.now c.note_ask.new.self i (room_of roll) m c.in-ok-status.status w ok called (c.in-ok-may-ask.ensures.site refl) c.note_ask.ensures.wide c.note_ask.ensures.noted,
+        rw (not_granted kind laws i m waits) (rolled_none roll),
+      );
 }

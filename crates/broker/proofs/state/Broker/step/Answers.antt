@@ -1,24 +1,64 @@
-use Rattle.std.proofs.Common.{ap}
+use Rattle.std.proofs.Common.{◌≡◌, [], ◌∷◌, Some, None, Err, refl, ap, ◌∙◌}
+use Rattle.std.proofs.lemmas.Result.{err_from_is_err_and}
+use Rattle.manager.specs.Refusals.{step_order}
 use Rattle.roll.specs.Contents.{room_of}
 use Rattle.history.specs.Calls.{step}
-use Rattle.history.specs.Records.{grants_by_step}
-use Rattle.broker.specs.Outcome.{site_told}
+use Rattle.history.specs.Records.{grant, grants_by_step}
 use Rattle.broker.specs.Reading.{records_of}
-use Rattle.broker.proofs.Answering.{handed_on}
-use Rattle.broker.proofs.Outcomes.{refused_granting, stepped_outcome}
+use Rattle.broker.proofs.Answering.{accepted, refusing, has_room}
+use Rattle.broker.proofs.Outcomes.{refused_outcome, stepped_outcome, granted_by_step}
+use Rattle.broker.proofs.Rolling.{rolled_none, rolled_push, not_full}
 use Rattle.broker.proofs.state.Broker.step.Goals as goal
 
 pub returns-in-err-may-step : goal.returns-in-err-may-step
 returns-in-err-may-step g c = record {
   is_one_call = λ w.
+      let roll = c.args.roll.now in
       let e = c.in-err-may-step.field-0.0 in
-      let failed = handed_on c.from-residual.result e c.from-residual.ensures.1 in
-      let b = c.args.self.now in
-      refused_granting g.M.Manager g.met.M.Manager.laws b c.args.roll.now (step c.args.k (room_of c.args.roll.now)) _ _ _ e w failed c.in-err-may-step.ensures.refuses_what_is_due (ap (λ r. grants_by_step (records_of b) (site_told r)) failed);
+      let due = refusing _ _ e (c.in-err-may-step.ensures w) in
+      let p = err_from_is_err_and c.from-residual.result c.from-residual.ensures.1 in (
+        None,
+        [],
+        refused_outcome g.M.Manager g.met.M.Manager.laws c.args.self.now (step c.args.k (room_of roll)) _ None _ e w (p.1 ∙ ap Err p.2) due refl,
+        rolled_none roll,
+        λ ok. refl,
+      );
 }
 
-pub returns : goal.returns
-returns g c = record {
+pub returns-in-Some : goal.returns-in-Some
+returns-in-Some g c = record {
   is_one_call = λ w.
-      stepped_outcome g.M.Manager g.met.M.Manager.laws c.args.self.now c.note_step.new.self c.step.new.self w c.args.roll.now c.add_if_granted.new.roll c.args.k c.in-ok-granted.granted c.in-ok-may-step.ensures.refuses_what_is_due (c.in-ok-granted.ensures.steps_or_refuses w.sound) c.note_step.ensures.counts_the_step c.add_if_granted.ensures.adds_grant_if_any;
+      let kind = g.M.Manager in
+      let laws = g.met.M.Manager.laws in
+      let b = c.args.self.now in
+      let roll = c.args.roll.now in
+      let site = c.in-Some.site in
+      let waited = c.since-ask-waited.result in
+      let m = c.step.new.self in
+      let ok = accepted _ _ _ (c.in-ok-may-step.ensures w) in
+      let free = has_room step_order (kind.meaning b.manager) c.args.k (room_of roll) ok in
+      let one = granted_by_step kind laws b c.note_step.new.self waited site m w c.note_step.ensures c.since-ask-waited.ensures in
+      let p = c.push.ensures in (
+        Some site,
+        grants_by_step kind (records_of b) (Some site),
+        stepped_outcome kind laws b c.note_step.new.self c.args.k (room_of roll) c.in-ok-granted.granted (Some site) m c.in-Some.is w ok (c.in-ok-granted.ensures w.sound) c.note_step.ensures,
+        rw one (rolled_push roll c.push.new.self (grant site waited) (not_full roll free) p.contents p.grows p.memory p.lender),
+        λ ok. refl,
+      );
+}
+
+pub returns-in-default : goal.returns-in-default
+returns-in-default g c = record {
+  is_one_call = λ w.
+      let kind = g.M.Manager in
+      let b = c.args.self.now in
+      let roll = c.args.roll.now in
+      let granted = c.in-ok-granted.granted in
+      let ok = accepted _ _ _ (c.in-ok-may-step.ensures w) in (
+        granted,
+        grants_by_step kind (records_of b) granted,
+        stepped_outcome kind g.met.M.Manager.laws b c.note_step.new.self c.args.k (room_of roll) granted granted c.step.new.self refl w ok (c.in-ok-granted.ensures w.sound) c.note_step.ensures,
+        rw c.in-default.is (rolled_none roll),
+        λ ok. refl,
+      );
 }

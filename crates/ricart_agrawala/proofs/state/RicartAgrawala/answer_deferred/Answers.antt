@@ -15,7 +15,7 @@ loop-other-preserved c =
     let n = c.loop-other.other in
     let e = c.loop-other.invariant in
     let rows : length m.stages ≡ 16 = search rules in
-    let wide : length (get_or m.stages n []) ≡ 16 = m.square n (omega arith) in
+    let wide : length (get_or m.stages n []) ≡ 16 = m.wide n (omega arith) in
     same_state _ _ record {
       sites = ap (λ (t : State). t.sites) e;
       status = λ x. ap (λ (t : State). t.status x) e;
@@ -23,7 +23,7 @@ loop-other-preserved c =
       number = λ x. ap (λ (t : State). t.number x) e;
       stage = λ a b.
           read_set2 m.stages n i c.answered.result Unasked (omega arith) (omega arith) a b
-          ∙ ap (λ v. upd2 (state_of m).stage n i v a b) c.answered.ensures.answers_what_was_deferred
+          ∙ ap (λ v. upd2 (state_of m).stage n i v a b) c.answered.ensures
           ∙ ap (λ (t : State). upd2 t.stage n i (cond (is_deferred (t.stage n i)) Replied (t.stage n i)) a b) e
           ∙ answered_more (state_of c.args.self.now) i n a b;
       age = ap (λ (t : State). t.age) e;

@@ -6,8 +6,8 @@ use Rattle.ricart_agrawala.proofs.state.RicartAgrawala.has_deferred_any.Goals as
 pub returns-then-has-deferred : goal.returns-then-has-deferred
 returns-then-has-deferred c =
     let m = c.args.self.now in
-    record { tells_whether_it_deferred_any = any_here (λ j. is_deferred ((state_of m).stage j c.args.site)) m.sites c.loop-waiting.waiting c.loop-waiting-test.true c.if-has-deferred.ensures.tells_whether_it_deferred }
+    any_here (λ j. is_deferred ((state_of m).stage j c.args.site)) m.sites c.loop-waiting.waiting c.loop-waiting-test.true c.if-has-deferred.ensures
 
 pub loop-waiting-preserved : goal.loop-waiting-preserved
 loop-waiting-preserved c =
-    any_stays (λ j. is_deferred ((state_of c.args.self.now).stage j c.args.site)) c.loop-waiting.waiting c.loop-waiting.invariant c.if-has-deferred.ensures.tells_whether_it_deferred
+    any_stays (λ j. is_deferred ((state_of c.args.self.now).stage j c.args.site)) c.loop-waiting.waiting c.loop-waiting.invariant c.if-has-deferred.ensures

@@ -10,14 +10,12 @@ returns c =
     let a = c.args.sender in
     let b = c.args.receiver in
     let rows : length m.stages ≡ 16 = search rules in
-    let wide : length (get_or m.stages b []) ≡ 16 = m.square b (omega arith) in
-    record {
-      notes_the_reply = same_state _ _ record {
-        sites = refl;
-        status = λ i. refl;
-        highest = λ i. refl;
-        number = λ i. refl;
-        stage = read_set2 m.stages b a Received Unasked (omega arith) (omega arith);
-        age = refl;
-      };
+    let wide : length (get_or m.stages b []) ≡ 16 = m.wide b (omega arith) in
+    same_state _ _ record {
+      sites = refl;
+      status = λ i. refl;
+      highest = λ i. refl;
+      number = λ i. refl;
+      stage = read_set2 m.stages b a Received Unasked (omega arith) (omega arith);
+      age = refl;
     }

@@ -15,14 +15,12 @@ returns c =
     let b = c.args.receiver in
     let rows : length m.stages ≡ 16 = search rules in
     let heights : length m.highest ≡ 16 = search rules in
-    let wide : length (get_or m.stages a []) ≡ 16 = m.square a (omega arith) in
-    record {
-      request_comes = same_state _ _ record {
-        sites = refl;
-        status = λ i. refl;
-        highest = λ i. read_set m.highest b c.raised.result 1 (omega arith) i ∙ ap (λ v. upd s.highest b v i) c.raised.ensures.is_the_higher_number;
-        number = λ i. refl;
-        stage = λ x y. read_set2 m.stages a b c.answer_to.result Unasked (omega arith) (omega arith) x y ∙ ap (λ v. upd2 s.stage a b v x y) c.answer_to.ensures.defers_or_replies;
-        age = refl;
-      };
+    let wide : length (get_or m.stages a []) ≡ 16 = m.wide a (omega arith) in
+    same_state _ _ record {
+      sites = refl;
+      status = λ i. refl;
+      highest = λ i. read_set m.highest b c.raised.result 1 (omega arith) i ∙ ap (λ v. upd s.highest b v i) c.raised.ensures;
+      number = λ i. refl;
+      stage = λ x y. read_set2 m.stages a b c.answer_to.result Unasked (omega arith) (omega arith) x y ∙ ap (λ v. upd2 s.stage a b v x y) c.answer_to.ensures;
+      age = refl;
     }

@@ -1,8 +1,8 @@
-use Rattle.std.proofs.Common.{◌≡◌, ◌+◌, ◌<◌, ◌≤◌, length, refl, ap, ◌∙◌, arith, rules}
+use Rattle.std.proofs.Common.{◌≡◌, ℕ, ◌+◌, ◌<◌, ◌≤◌, [], length, get_or, set, refl, ap, ◌∙◌, arith, rules}
 use Rattle.manager.specs.declared.status.Status.TheVariants.{Idle, Waiting}
 use Rattle.counting.specs.Sums.{upd}
 use Rattle.counting.proofs.Sums.{upd_same}
-use Rattle.counting.proofs.Arrays.{read_set, square_set}
+use Rattle.counting.proofs.Arrays.{read_set, wide_set}
 use Rattle.ricart_rules.specs.declared.Stage.TheVariants.{Requested}
 use Rattle.ricart_agrawala.specs.Reading.{state_of}
 use Rattle.ricart_agrawala.proofs.Rows.{others_written}
@@ -15,7 +15,8 @@ invariant-of-self-2 c =
     let fewer : m.sites ≤ 16 = m.most in
     let rows : length m.stages ≡ 16 = search rules in
     let row : length c.with_others.result ≡ 16 = search rules in
-    (m.fewest, (m.most, (square_set m.stages c.args.site c.with_others.result 16 (omega arith) row m.square, (omega arith, tt))))
+    let wide : (a : ℕ) → a < 16 → length (get_or (set m.stages c.args.site c.with_others.result) a []) ≡ 16 = λ a h. wide_set m.stages c.args.site c.with_others.result 16 (omega arith) row a (m.wide a h) in
+    (m.fewest, (m.most, (wide, (omega arith, tt))))
 
 pub returns : goal.returns
 returns c =
@@ -29,16 +30,16 @@ returns c =
     let rows : length m.stages ≡ 16 = search rules in
     let status = read_set m.status i Waiting Idle (omega arith) in
     record {
-      asks_by_the_rule = λ sound.
+      state = λ sound.
           let low : s.highest i ≤ m.age + 1 = sound.young_highest i (omega arith) in
-          let next : c.next_number.result ≡ s.highest i + 1 = omega (arith, c.next_number.ensures.is_one_past_the_highest) in
+          let next : c.next_number.result ≡ s.highest i + 1 = omega (arith, c.next_number.ensures) in
           same_state _ _ record {
             sites = refl;
             status = status;
             highest = λ j. refl;
             number = λ j. read_set m.number i c.next_number.result 1 (omega arith) j ∙ ap (λ v. upd s.number i v j) next;
-            stage = others_written m.stages m.sites i Requested c.with_others.result (omega arith) c.with_others.ensures.writes_it_for_all_others;
+            stage = others_written m.stages m.sites i Requested c.with_others.result (omega arith) c.with_others.ensures;
             age = refl;
           };
-      leaves_it_waiting = status i ∙ upd_same s.status i Waiting;
+      waits = status i ∙ upd_same s.status i Waiting;
     }

@@ -1,7 +1,6 @@
-use Rattle.std.proofs.Common.{◌≡◌, ◌≤◌, eqb, length, get_or, sym, arith, rules}
+use Rattle.std.proofs.Common.{◌≡◌, ◌≤◌, eqb, length, get_or, take, sym, arith, rules}
 use Rattle.std.proofs.lemmas.Bool.{cond-false, ne_eqb, le-ltb}
 use Rattle.counting.specs.Sums.{times, one_if}
-use Rattle.suzuki_kasami.specs.Queues.{waiting_list}
 use Rattle.suzuki_kasami.proofs.Stored.{queued_stored, times_more}
 use Rattle.suzuki_kasami.proofs.queue.Queue.contains.Goals as goal
 
@@ -9,7 +8,7 @@ pub returns-then-self-k : goal.returns-then-self-k
 returns-then-self-k c =
     let places : length c.args.self.now.items ≡ 16 = search rules in
     let fits : c.args.self.now.len ≤ 16 = c.args.self.now.fits in
-    record { tells_whether_queued = queued_stored c.args.self.now.items c.args.self.now.len c.loop-k.k c.args.site (omega arith) (omega arith) c.if-self-k.true }
+    queued_stored c.args.self.now.items c.args.self.now.len c.loop-k.k c.args.site (omega arith) (omega arith) c.if-self-k.true
 
 pub loop-k-preserved : goal.loop-k-preserved
 loop-k-preserved c =
@@ -22,6 +21,5 @@ loop-k-preserved c =
 pub returns : goal.returns
 returns c =
     let all : c.loop-k.k ≡ c.args.self.now.len = omega arith in
-    let here = times (waiting_list c.args.self.now) c.args.site in
-    let none : here ≡ 0 = rw all at c.loop-k.invariant in
-    record { tells_whether_queued = sym (le-ltb 0 here (omega arith)) }
+    let none : times (take c.args.self.now.len c.args.self.now.items) c.args.site ≡ 0 = rw all at c.loop-k.invariant in
+    sym (le-ltb 0 (times (take c.args.self.now.len c.args.self.now.items) c.args.site) (omega arith))

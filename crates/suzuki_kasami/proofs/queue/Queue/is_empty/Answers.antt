@@ -6,4 +6,4 @@ pub returns : goal.returns
 returns c =
     let places : length c.args.self.now.items ≡ 16 = search rules in
     let fits : c.args.self.now.len ≤ 16 = c.args.self.now.fits in
-    record { tells_whether_empty = stored_empty c.args.self.now.len c.args.self.now.items (omega arith) }
+    stored_empty c.args.self.now.len c.args.self.now.items (omega arith)

@@ -9,9 +9,9 @@ returns c =
     let places : length xs ≡ 16 = search rules in
     let fits : n ≤ 16 = c.args.self.now.fits in
     record {
-      answers_the_first = popped_first xs n (omega arith) (omega arith);
-      leaves_the_rest = ap (λ ys. take (n - 1) ys) c.rotate_left.ensures.after ∙ popped_rest xs n (omega arith) (omega arith);
-      answers_no_site_past_the_most = c.args.self.now.places 0 (omega arith);
+      first = popped_first xs n (omega arith) (omega arith);
+      rest = ap (λ ys. take (n - 1) ys) c.rotate_left.ensures.after ∙ popped_rest xs n (omega arith) (omega arith);
+      within = c.args.self.now.places 0 (omega arith);
     }
 
 pub invariant-of-self : goal.invariant-of-self

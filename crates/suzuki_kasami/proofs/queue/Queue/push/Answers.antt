@@ -8,14 +8,14 @@ invariant-of-self c =
     let places : length xs ≡ 16 = search rules in
     (omega arith, (set_places xs c.args.self.now.len c.args.site (omega arith) c.requires c.args.self.now.places, tt))
 
-pub returns-then-self-lt-MOST-ISLAND-SITES : goal.returns-then-self-lt-MOST-ISLAND-SITES
-returns-then-self-lt-MOST-ISLAND-SITES c =
+pub returns-then-self-lt16 : goal.returns-then-self-lt16
+returns-then-self-lt16 c =
     let xs = c.args.self.now.items in
     let places : length xs ≡ 16 = search rules in
-    record { adds_at_the_end_if_it_fits = pushed_stored xs c.args.self.now.len c.args.site places (omega arith) }
+    pushed_stored xs c.args.self.now.len c.args.site places (omega arith)
 
-pub returns-else-self-lt-MOST-ISLAND-SITES : goal.returns-else-self-lt-MOST-ISLAND-SITES
-returns-else-self-lt-MOST-ISLAND-SITES c =
+pub returns-else-self-lt16 : goal.returns-else-self-lt16
+returns-else-self-lt16 c =
     let xs = c.args.self.now.items in
     let places : length xs ≡ 16 = search rules in
-    record { adds_at_the_end_if_it_fits = pushed_full xs c.args.self.now.len c.args.site places c.args.self.now.fits c.if-self-lt-MOST-ISLAND-SITES.false }
+    pushed_full xs c.args.self.now.len c.args.site places c.args.self.now.fits c.if-self-lt16.false

@@ -4,8 +4,8 @@ use Rattle.suzuki_kasami.proofs.state.SuzukiKasami.deliver.Goals as goal
 
 pub returns-in-Some : goal.returns-in-Some
 returns-in-Some c =
-    record { delivers_thing_k = request_delivered c.args.self.now c.args.k c.in-Some.sender c.in-Some.receiver (state_of c.receive.new.self) c.in-Some.ensures.finds_the_one_after_k_others c.receive.ensures.request_comes }
+    request_delivered c.args.self.now c.args.k c.in-Some.sender c.in-Some.receiver (state_of c.receive.new.self) c.in-Some.ensures c.receive.ensures
 
 pub returns : goal.returns
 returns c =
-    record { delivers_thing_k = token_delivered (state_of c.args.self.now) c.args.k c.in-Sent.site (state_of c.arrive.new.self) c.in-Sent.is c.in-default.ensures.finds_the_one_after_k_others c.requires.0 c.arrive.ensures.token_comes }
+    token_delivered (state_of c.args.self.now) c.args.k c.in-Sent.site (state_of c.arrive.new.self) c.in-Sent.is c.in-default.ensures c.requires.0 c.arrive.ensures

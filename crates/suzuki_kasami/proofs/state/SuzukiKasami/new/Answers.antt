@@ -7,5 +7,8 @@ use Rattle.suzuki_kasami.proofs.state.SuzukiKasami.new.Goals as goal
 
 pub returns : goal.returns
 returns c =
-    let parked : state_of c.parked.result ≡ made c.args.sites = search rules in
-    record { is_parked_at_its_last_site = parked; is_sound = subst Sound (sym parked) (made_sound c.args.sites) }
+    let state : state_of c.parked.result ≡ made c.args.sites = search rules in
+    record {
+      state = state;
+      sound = subst Sound (sym state) (made_sound c.args.sites);
+    }

@@ -1,5 +1,4 @@
 use Rattle.std.proofs.Common.{false, ltb, refl, arith}
-use Rattle.manager.specs.Meaning.{most_island_sites}
 use Rattle.manager.specs.declared.status.Status.TheVariants.{Idle, Holding}
 use Rattle.counting.proofs.Arrays.{read_flat, read_flat2, read_set_flat}
 use Rattle.suzuki_kasami.proofs.States.{same_state}
@@ -7,15 +6,13 @@ use Rattle.suzuki_kasami.proofs.Sending.{no_link}
 use Rattle.suzuki_kasami.proofs.state.SuzukiKasami.parked.Goals as goal
 
 pub returns : goal.returns
-returns c = record {
-  is_parked_at_site = same_state _ _ record {
-    sites = refl;
-    status = read_set_flat most_island_sites Idle Holding c.args.site (omega arith);
-    known = read_flat2 most_island_sites most_island_sites 0;
-    link = λ i j. no_link (ltb j c.args.sites) _ _ (read_flat2 most_island_sites most_island_sites false i j);
-    token = refl;
-    served = read_flat most_island_sites 0;
-    queue = c.new.ensures.has_no_sites;
-    age = refl;
-  };
+returns c = same_state _ _ record {
+  sites = refl;
+  status = read_set_flat 16 Idle Holding c.args.site (omega arith);
+  known = read_flat2 16 16 0;
+  link = λ i j. no_link (ltb j c.args.sites) _ _ (read_flat2 16 16 false i j);
+  token = refl;
+  served = read_flat 16 0;
+  queue = c.new.ensures;
+  age = refl;
 }

@@ -22,19 +22,17 @@ returns c =
     let fewer : m.sites ≤ 16 = m.most in
     let rows : length m.known ≡ 16 = search rules in
     let flags : length m.requests ≡ 16 = search rules in
-    let heard : length (get_or m.known b []) ≡ 16 = m.square.0 b (omega arith) in
-    let links : length (get_or m.requests a []) ≡ 16 = m.square.1 a (omega arith) in
+    let heard : length (get_or m.known b []) ≡ 16 = (m.wide b (omega arith)).0 in
+    let links : length (get_or m.requests a []) ≡ 16 = (m.wide a (omega arith)).1 in
     let is : larger ≡ max (get_or (get_or m.known b []) a 0) (get_or (get_or m.known a []) a 0) = cc in
     let now_known = read_set2 m.known b a larger 0 (omega arith) (omega arith) b a ∙ upd2_same (λ x y. get_or (get_or m.known x []) y 0) b a larger ∙ is in
-    record {
-      request_comes = same_state _ _ record {
-        sites = refl;
-        status = λ i. refl;
-        known = λ x y. read_set2 m.known b a larger 0 (omega arith) (omega arith) x y ∙ ap (λ v. upd2 (λ x y. get_or (get_or m.known x []) y 0) b a v x y) is;
-        link = λ x y. cc (links_received m.sites m.requests m.known a b (omega arith) (omega arith) (omega arith) (omega arith) larger is x y);
-        token = c.forwarded-token.ensures.goes_to_the_other_if_due ∙ rests_and_wants (Sent a) m.token (has_token s b) (is_idle (get_or m.status b Idle)) (ap (λ v. eqb v (get_or m.served a 0 + 1)) now_known);
-        served = λ i. refl;
-        queue = refl;
-        age = refl;
-      };
+    same_state _ _ record {
+      sites = refl;
+      status = λ i. refl;
+      known = λ x y. read_set2 m.known b a larger 0 (omega arith) (omega arith) x y ∙ ap (λ v. upd2 (λ x y. get_or (get_or m.known x []) y 0) b a v x y) is;
+      link = λ x y. cc (links_received m.sites m.requests m.known a b (omega arith) (omega arith) (omega arith) (omega arith) larger is x y);
+      token = c.forwarded-token.ensures.token ∙ rests_and_wants (Sent a) m.token (has_token s b) (is_idle (get_or m.status b Idle)) (ap (λ v. eqb v (get_or m.served a 0 + 1)) now_known);
+      served = λ i. refl;
+      queue = refl;
+      age = refl;
     }

@@ -12,8 +12,8 @@ returns-then-has-token c =
     let s = state_of c.args.self.now in
     let i = c.args.site in
     record {
-      asks_by_the_rule = λ sound. c.hold.ensures.makes_it_hold ∙ sym (cond-true (has_token s i) (held s i) (requested s i) (sym c.if-has-token.ensures.tells_whether_it_has_the_token));
-      answers_its_status_then = λ sound. sym (ap (λ (t : State). t.status i) c.hold.ensures.makes_it_hold ∙ upd_same s.status i Holding);
+      state = λ sound. c.hold.ensures ∙ sym (cond-true (has_token s i) (held s i) (requested s i) (sym c.if-has-token.ensures));
+      status = λ sound. sym (ap (λ (t : State). t.status i) c.hold.ensures ∙ upd_same s.status i Holding);
     }
 
 pub returns-else-has-token : goal.returns-else-has-token
@@ -21,6 +21,6 @@ returns-else-has-token c =
     let s = state_of c.args.self.now in
     let i = c.args.site in
     record {
-      asks_by_the_rule = λ sound. c.send_requests.ensures.sends_to_all_others sound ∙ sym (cond-false (has_token s i) (held s i) (requested s i) (sym c.if-has-token.ensures.tells_whether_it_has_the_token));
-      answers_its_status_then = λ sound. sym (ap (λ (t : State). t.status i) (c.send_requests.ensures.sends_to_all_others sound) ∙ upd_same s.status i Waiting);
+      state = λ sound. c.send_requests.ensures sound ∙ sym (cond-false (has_token s i) (held s i) (requested s i) (sym c.if-has-token.ensures));
+      status = λ sound. sym (ap (λ (t : State). t.status i) (c.send_requests.ensures sound) ∙ upd_same s.status i Waiting);
     }

@@ -1,7 +1,6 @@
 use Rattle.std.proofs.Common.{◌+◌, ◌-◌, ◌≤◌, [], arith}
 use Rattle.suzuki_rules.specs.Rules.{range}
-use Rattle.suzuki_kasami.specs.Queues.{waiting_list}
-use Rattle.suzuki_kasami.specs.Reading.{state_of}
+use Rattle.suzuki_kasami.specs.Reading.{state_of, waiting_list}
 use Rattle.suzuki_kasami.proofs.Gathering.{gathered_next}
 use Rattle.suzuki_kasami.proofs.state.SuzukiKasami.search.Goals as goal
 
@@ -11,11 +10,11 @@ loop-other-preserved c =
     let i = c.args.site in
     let j = c.loop-other.other in
     let after : i + 1 ≤ j = omega arith in
-    gathered_next (state_of m) i (waiting_list m.queue) (waiting_list c.loop-other.queue) (waiting_list c.enqueue.new.queue) [] (i + 1) (j - (i + 1)) (j + 1 - (i + 1)) j (omega arith) (omega arith) c.loop-other.invariant c.enqueue.ensures.queues_if_known_to_wait
+    gathered_next (state_of m) i (waiting_list m.queue) (waiting_list c.loop-other.queue) (waiting_list c.enqueue.new.queue) [] (i + 1) (j - (i + 1)) (j + 1 - (i + 1)) j (omega arith) (omega arith) c.loop-other.invariant c.enqueue.ensures
 
 pub loop-other-2-preserved : goal.loop-other-2-preserved
 loop-other-2-preserved c =
     let m = c.args.self.now in
     let i = c.args.site in
     let j = c.loop-other-2.other in
-    gathered_next (state_of m) i (waiting_list m.queue) (waiting_list c.loop-other-2.queue) (waiting_list c.enqueue-in-loop-other-2.new.queue) (range (i + 1) (m.sites - (i + 1))) 0 j (j + 1) j (omega arith) (omega arith) c.loop-other-2.invariant c.enqueue-in-loop-other-2.ensures.queues_if_known_to_wait
+    gathered_next (state_of m) i (waiting_list m.queue) (waiting_list c.loop-other-2.queue) (waiting_list c.enqueue-in-loop-other-2.new.queue) (range (i + 1) (m.sites - (i + 1))) 0 j (j + 1) j (omega arith) (omega arith) c.loop-other-2.invariant c.enqueue-in-loop-other-2.ensures

@@ -1,7 +1,6 @@
 use Rattle.std.proofs.Common.{◌≡◌, ◌+◌, ◌-◌, [], ◌++◌}
 use Rattle.suzuki_rules.specs.Rules.{range}
-use Rattle.suzuki_kasami.specs.Queues.{waiting_list}
-use Rattle.suzuki_kasami.specs.Reading.{state_of}
+use Rattle.suzuki_kasami.specs.Reading.{state_of, waiting_list}
 use Rattle.suzuki_kasami.specs.Waiting.{gathered}
 use Rattle.suzuki_kasami.proofs.state.SuzukiKasami.search.Given as goal
 

@@ -1,26 +1,14 @@
-use Rattle.std.proofs.Common.{◌≡◌, ◌+◌, ◌<◌, ◌≤◌, cond, not, ◌&&◌, eqb, ltb, [], length, get_or, set, Some, refl, ap, ◌∙◌, arith, length-set, rules}
+use Rattle.std.proofs.Common.{◌≡◌, ◌+◌, ◌<◌, ◌≤◌, cond, not, ◌&&◌, eqb, ltb, [], length, get_or, Some, refl, ap, ◌∙◌, arith, rules}
 use Rattle.manager.specs.declared.status.Status.TheVariants.{Idle, Waiting}
 use Rattle.counting.specs.Tables.{upd2}
-use Rattle.counting.proofs.Arrays.{read_set, read_set2, square_set}
+use Rattle.counting.proofs.Arrays.{read_set, read_set2}
 use Rattle.suzuki_kasami.specs.Reading.{link_of}
 use Rattle.suzuki_kasami.proofs.Links.{links_sent}
 use Rattle.suzuki_kasami.proofs.States.{same_state}
 use Rattle.suzuki_kasami.proofs.state.SuzukiKasami.send_requests.Goals as goal
 
-pub invariant-of-self : goal.invariant-of-self
-invariant-of-self c =
-    let m = c.args.self.now in
-    let i = c.args.site in
-    let own = set (get_or m.known i []) i c.saturating_add.result in
-    let fewer : m.sites ≤ 16 = m.most in
-    let rows : length m.known ≡ 16 = search rules in
-    let flags : length m.requests ≡ 16 = search rules in
-    let row : length own ≡ 16 = simp length-set (m.square.0 i (omega arith)) in
-    let sent : length c.others.result ≡ 16 = search rules in
-    (m.fewest, (m.most, ((square_set m.known i own 16 (omega arith) row m.square.0, square_set m.requests i c.others.result 16 (omega arith) sent m.square.1), (m.placed, (omega arith, tt)))))
-
 pub returns : goal.returns
-returns c =
+returns c sound =
     let m = c.args.self.now in
     let i = c.args.site in
     let own = get_or (get_or m.known i []) i 0 in
@@ -29,19 +17,16 @@ returns c =
     let statuses : length m.status ≡ 16 = search rules in
     let rows : length m.known ≡ 16 = search rules in
     let flags : length m.requests ≡ 16 = search rules in
-    let wide : length (get_or m.known i []) ≡ 16 = m.square.0 i within in
-    record {
-      sends_to_all_others = λ sound.
-          let low : own ≤ m.age = sound.young i (omega arith) in
-          let next : c.saturating_add.result ≡ own + 1 = omega (arith, c.saturating_add.ensures) in
-          same_state _ _ record {
-            sites = refl;
-            status = read_set m.status i Waiting Idle (omega arith);
-            known = λ a b. read_set2 m.known i i c.saturating_add.result 0 (omega arith) (omega arith) a b ∙ ap (λ v. upd2 (λ x y. get_or (get_or m.known x []) y 0) i i v a b) next;
-            link = λ a b. links_sent m.sites m.requests m.known i (omega arith) (omega arith) (omega arith) c.others.result c.saturating_add.result c.others.ensures.marks_all_others (sound.no_loop i (omega arith)) a b ∙ ap (λ v. cond (eqb a i && (ltb b m.sites && not (eqb b i))) (Some v) (link_of m.sites m.requests m.known a b)) next;
-            token = refl;
-            served = λ j. refl;
-            queue = refl;
-            age = refl;
-          };
+    let wide : length (get_or m.known i []) ≡ 16 = (m.wide i within).0 in
+    let low : own ≤ m.age = sound.young i (omega arith) in
+    let next : c.saturating_add.result ≡ own + 1 = omega (arith, c.saturating_add.ensures) in
+    same_state _ _ record {
+      sites = refl;
+      status = read_set m.status i Waiting Idle (omega arith);
+      known = λ a b. read_set2 m.known i i c.saturating_add.result 0 (omega arith) (omega arith) a b ∙ ap (λ v. upd2 (λ x y. get_or (get_or m.known x []) y 0) i i v a b) next;
+      link = λ a b. links_sent m.sites m.requests m.known i (omega arith) (omega arith) (omega arith) c.others.result c.saturating_add.result c.others.ensures (sound.no_loop i (omega arith)) a b ∙ ap (λ v. cond (eqb a i && (ltb b m.sites && not (eqb b i))) (Some v) (link_of m.sites m.requests m.known a b)) next;
+      token = refl;
+      served = λ j. refl;
+      queue = refl;
+      age = refl;
     }

@@ -1,11 +1,10 @@
-use Rattle.manager.proofs.Answering.{accepted, accepted_call}
-use Rattle.tie.specs.Reading.{tied}
-use Rattle.tie.proofs.Checked.{may_name}
+use Rattle.tie_rules.specs.Reading.{meaning_of}
+use Rattle.tie.specs.Reading.{tie_of}
+use Rattle.tie.proofs.Answering.{accepted, may_name, accepted_call}
 use Rattle.tie.proofs.calls.TieManager.ask.Goals as goal
 
 pub returns : goal.returns
-returns g c = record {
-  asks_or_refuses = λ v.
-      let (within, young) = may_name ((tied g.L.Manager g.R.Manager g.O.Manager).meaning c.args.self.now) c.args.site (accepted _ _ _ c.in-ok-may-name.ensures.refuses_past_last_site_or_when_worn) in
-      accepted_call _ _ _ _ _ _ _ (c.in-ok-status.ensures.asks_in_its_island v young within);
-}
+returns g c = λ v.
+    let m = meaning_of g.L.Manager g.R.Manager g.O.Manager (tie_of c.args.self.now) in
+    let known = may_name m c.args.site (accepted _ _ _ c.in-ok-may-name.ensures) in
+    accepted_call _ _ _ _ _ _ _ (c.in-ok-status.ensures.asks v known.1 known.0)

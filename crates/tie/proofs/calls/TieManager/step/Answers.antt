@@ -1,13 +1,12 @@
-use Rattle.manager.proofs.Answering.{accepted, done_call}
-use Rattle.tie.specs.Reading.{tied}
-use Rattle.tie.proofs.Checked.{may_step}
+use Rattle.tie_rules.specs.Reading.{meaning_of}
+use Rattle.tie.specs.Reading.{tie_of}
+use Rattle.tie.proofs.Answering.{accepted, may_step, done_call}
 use Rattle.tie.proofs.calls.TieManager.step.Goals as goal
 
 pub returns : goal.returns
-returns g c = record {
-  steps_or_refuses = λ v.
-      let none = accepted _ _ _ c.in-ok-may-step.ensures.refuses_when_worn_or_past_last_thing in
-      let (within, young) = may_step ((tied g.L.Manager g.R.Manager g.O.Manager).meaning c.args.self.now) c.args.k none in
-      let (grant, ok, did) = c.in-ok-granted.ensures.carries_out_that_thing v young within in
-      (grant, done_call _ _ _ _ _ _ none ok did);
-}
+returns g c = λ v.
+    let m = meaning_of g.L.Manager g.R.Manager g.O.Manager (tie_of c.args.self.now) in
+    let none = accepted _ _ _ c.in-ok-may-step.ensures in
+    let known = may_step m c.args.k none in
+    let (grant, ok, did) = c.in-ok-granted.ensures.steps v known.1 known.0 in
+    (grant, done_call _ _ _ _ _ _ none ok did)

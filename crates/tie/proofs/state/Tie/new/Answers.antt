@@ -1,5 +1,4 @@
-use Rattle.std.proofs.Common.{ℕ, subst, arith}
-use Rattle.gateway.specs.Automaton.{last}
+use Rattle.std.proofs.Common.{ℕ, ◌-◌, ◌<◌, subst, arith}
 use Rattle.tie_rules.specs.Reading.{meaning_of}
 use Rattle.tie_rules.specs.Rules.{Parks}
 use Rattle.manager.proofs.Accepted.{site_accepted}
@@ -19,8 +18,6 @@ returns g c =
     let t = untied c.args.left c.args.right c.args.outer in
     let t' = tie_of c.begin_at.new.self in
     let m = meaning_of kl kr ko t in
-    let parked = subst (λ (n : ℕ). Parks kl kr ko t n t') c.last-site-last.ensures.gives_last_site c.begin_at.ensures.parks_at_that_site in
-    record {
-      is_parked_at_its_last_site = parked;
-      is_sound = (park_lawful kl kr ko ll lr lo t t' (last m) (site_accepted m (last m) (omega (arith, (bounded kl kr ko t ll lr lo).fewest))) parked).0;
-    }
+    let within : m.sites - 1 < m.sites = omega (arith, (bounded kl kr ko t ll lr lo (omega arith)).fewest) in
+    let parked = subst (λ (n : ℕ). Parks kl kr ko t n t') c.last-site-last.ensures c.begin_at.ensures in
+    record { parked = parked; sound = (park_lawful kl kr ko ll lr lo t t' (m.sites - 1) (site_accepted m (m.sites - 1) within) parked).0 }
