@@ -1,18 +1,13 @@
 -- A broker that is made or started begins a history.
-use Rattle.std.proofs.Common.{◌≡◌, ℕ, ◌-◌, ◌<◌, ◌≤◌, false, cond, leb, get_or, replicate, Some, None, Option, sym, refl, ap, ◌∙◌, inl, inr, arith}
+use Rattle.std.proofs.Common.{◌≡◌, ℕ, ◌<◌, leb, get_or, replicate, Some, None, inl, inr, arith}
 use mathlib.Core.Path.{fun_ext}
 use Rattle.std.proofs.lemmas.List.{get_or_past, get_or-replicate, length-replicate}
 use Rattle.std.proofs.lemmas.Bool.{lt-leb, cond-false, cases_lt}
-use Rattle.manager.specs.Kinds.{Kind, Obeys}
 use Rattle.manager.specs.Meaning.{Meaning}
 use Rattle.manager.specs.Refusals.{refused, site_order}
-use Rattle.manager.specs.declared.refusal.Refusal.{Refusal}
 use Rattle.manager.specs.declared.refusal.Refusal.TheVariants.{NoSite}
-use Rattle.history.specs.Promise.{Begun}
-use Rattle.history.specs.Records.{Records, started}
-use Rattle.history.proofs.Every.{begun}
+use Rattle.history.specs.Records.{started}
 use Rattle.broker.specs.Reading.{records_of}
-use Rattle.broker.specs.declared.state.Broker.{Broker}
 
 pub is_site : (m : Meaning) (i : ℕ) → i < m.sites → refused site_order m i ≡ None
 is_site m i h = cond-false (leb m.sites i) (Some NoSite) None (lt-leb m.sites i h)

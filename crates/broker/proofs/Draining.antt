@@ -1,5 +1,5 @@
 -- A drain half way: what it has done so far, and how what it does from here on makes the whole.
-use Rattle.std.proofs.Common.{◌≡◌, ℕ, ◌+◌, ◌-◌, ◌<◌, ◌≤◌, Bool, true, false, cond, ◌&&◌, eqb, ltb, List, [], ◌∷◌, ◌++◌, length, set, Some, None, Ok, Err, Option, Result, sym, refl, ap, ◌∙◌, subst, append_assoc, append-nil, arith, length-set}
+use Rattle.std.proofs.Common.{◌≡◌, ℕ, ◌+◌, ◌-◌, ◌<◌, eqb, ltb, List, [], ◌∷◌, ◌++◌, length, set, Some, None, Ok, Option, sym, refl, ap, ◌∙◌, subst, append_assoc, append-nil, arith, length-set}
 use Rattle.std.proofs.lemmas.Bool.{cond-true, cond-false, lt-ltb, eq-eqb, ne_eqb, and_from, and_right}
 use Rattle.manager.specs.Kinds.{Kind}
 use Rattle.manager.specs.Refusals.{due}
@@ -7,7 +7,7 @@ use Rattle.manager.specs.declared.refusal.Refusal.{Refusal}
 use Rattle.manager.specs.declared.refusal.Refusal.TheVariants.{LimitReached}
 use Rattle.roll.specs.Contents.{room_of}
 use Rattle.roll.specs.declared.list.Roll.{Roll}
-use Rattle.history.specs.Calls.{Call, Done, Does, Drained, step, refusal, step_refusal, drain_refusal}
+use Rattle.history.specs.Calls.{Done, Does, Drained, step, refusal, step_refusal, drain_refusal}
 use Rattle.history.specs.Calls.Does.{is_refused, steps}
 use Rattle.history.specs.Calls.Drained.{finished, stopped, carried}
 use Rattle.history.specs.Records.{Records, Well, under, after_step, grants_by_step}
@@ -16,7 +16,7 @@ use Rattle.broker.specs.Outcome.{Outcome}
 use Rattle.broker.specs.Reading.{records_of}
 use Rattle.broker.specs.Rolling.{laid, Rolled}
 use Rattle.broker.specs.declared.state.Broker.{Broker}
-use Rattle.broker.proofs.Answering.{accepted, refusing}
+use Rattle.broker.proofs.Answering.{accepted}
 use Rattle.broker.proofs.Rolling.{rolled_none, rolled_onward}
 
 laid_length : {T : Type 0} (memory : List T) (k : ℕ) (xs : List T) → length (laid memory k xs) ≡ length memory

@@ -65,12 +65,12 @@ module _ (test : ℕ → Bool) (earlier : ℕ → ℕ → Bool) (irreflexive : (
   first_more n m f false comes p q = (m, record { within = omega (arith, f.within); passes = f.passes; least = λ j h t e. elim (cases_eq j n) [ inl s ↦ both_ways (test n) p (cc) | inr ne ↦ f.least j (omega arith) t e ] })
 
   -- If a number passes, one of those that do comes first.
-  pub first_of : (n i : ℕ) → i < n → test i ≡ true → (m : ℕ) × First test earlier n m
-  first_of zero i h p = absurd (omega arith)
-  first_of (suc n) i h p = elim (cases_Bool (any test n)) [
+  pub first_exists : (n i : ℕ) → i < n → test i ≡ true → (m : ℕ) × First test earlier n m
+  first_exists zero i h p = absurd (omega arith)
+  first_exists (suc n) i h p = elim (cases_Bool (any test n)) [
     | inl some ↦
         let w = any_some test n some in
-        let r = first_of n w.0 w.1 w.2 in
+        let r = first_exists n w.0 w.1 w.2 in
         first_more n r.0 r.1 (test n) (earlier n r.0) refl refl
     | inr none ↦ (
       i,

@@ -1,5 +1,5 @@
 -- Sums and counts over the numbers below n, and a function changed at one number. Assumes nothing.
-use Rattle.std.specs.Prelude.{ℕ, zero, suc, ◌+◌, Bool, true, false, cond, List, [], ◌∷◌, ◌==◌}
+use Rattle.std.specs.Prelude.{ℕ, zero, suc, ◌+◌, Bool, cond, List, [], ◌∷◌, ◌==◌}
 
 abbrev pub sum : (ℕ → ℕ) → ℕ → ℕ
 sum f zero = 0

@@ -1,10 +1,10 @@
 -- What one call on a broker changes, from the laws of its manager alone.
-use Rattle.std.proofs.Common.{◌≡◌, ℕ, ◌+◌, ◌*◌, ◌<◌, ◌≤◌, Bool, true, false, cond, List, [], ◌∷◌, ◌++◌, Some, None, Option, sym, refl, ap, ◌∙◌, ap₂, mul-zero, mul-one, arith}
+use Rattle.std.proofs.Common.{◌≡◌, ℕ, ◌+◌, ◌*◌, ◌≤◌, List, [], ◌∷◌, None, Option, refl, ◌∙◌, mul-zero, mul-one, arith}
 use Rattle.manager.specs.Kinds.{Kind, Obeys}
 use Rattle.manager.specs.Refusals.{due, refused, ask_order, step_order}
 use Rattle.manager.specs.declared.refusal.Refusal.{Refusal}
 use Rattle.manager.specs.declared.refusal.Refusal.TheVariants.{RollFull, LimitReached}
-use Rattle.history.specs.Calls.{Call, Done, done, ◌and◌, Does, Drained, step_refusal, drain_refusal}
+use Rattle.history.specs.Calls.{Call, Done, done, Does, Drained, step_refusal}
 use Rattle.history.specs.Calls.Drained.{finished, stopped, carried}
 use Rattle.history.specs.Calls.Does.{is_refused, asks, frees, steps, drains, writes_waits, answers}
 use Rattle.history.specs.Records.{Records, Well, under, after_step}

@@ -1,17 +1,15 @@
 -- Every history keeps the promise: the induction over its calls.
-use Rattle.std.proofs.Common.{◌≡◌, ℕ, ◌+◌, ◌*◌, ◌<◌, ◌≤◌, Bool, true, false, cond, leb, List, Some, None, Ok, Err, Option, Result, sym, refl, ap, ◌∙◌, subst, mul-one, mul-add, arith}
+use Rattle.std.proofs.Common.{◌≡◌, ℕ, ◌+◌, ◌*◌, ◌<◌, ◌≤◌, Bool, true, false, cond, leb, List, Some, None, Ok, Option, sym, refl, ap, ◌∙◌, subst, mul-one, mul-add, arith}
 use Rattle.std.proofs.lemmas.Bool.{leb-false}
 use Rattle.manager.specs.Answers.{answer, status_shown, holder_shown}
 use Rattle.manager.specs.Effects.{Parked}
 use Rattle.manager.specs.Kinds.{Kind, Obeys}
-use Rattle.manager.specs.Laws.{Lawful}
 use Rattle.manager.specs.Meaning.{Meaning, is_holding}
 use Rattle.manager.specs.Refusals.{refused, site_order}
 use Rattle.manager.proofs.First.{Finds, first_finds}
-use Rattle.manager.specs.declared.refusal.Refusal.{Refusal}
 use Rattle.manager.specs.declared.refusal.Refusal.TheVariants.{NoSite}
 use Rattle.manager.specs.declared.status.Status.{Status}
-use Rattle.manager.specs.declared.status.Status.TheVariants.{Idle, Waiting, Holding}
+use Rattle.manager.specs.declared.status.Status.TheVariants.{Waiting, Holding}
 use Rattle.history.specs.Calls.{Call, Done, done, ◌and◌, Does}
 use Rattle.history.specs.Histories.{History, Performed, Continues, GoesOn}
 use Rattle.history.specs.Histories.History.{begin, then}

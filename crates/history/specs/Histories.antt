@@ -1,5 +1,5 @@
 -- Histories: what any calls, in any order and with any arguments, come to. Assumes nothing.
-use Rattle.std.specs.Prelude.{ℕ, List}
+use Rattle.std.specs.Prelude.{List}
 use Rattle.manager.specs.Kinds.{Kind}
 use Rattle.history.specs.Calls.{Call, Done, done, ◌and◌, Does}
 use Rattle.history.specs.Records.{Records, Well}

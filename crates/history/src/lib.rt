@@ -1,5 +1,6 @@
 // The calls on a broker as mathematics: specs/ says what each call does and what is promised of every history of them,
 // proofs/ that the promise follows from the laws of a manager.
+#![tactic(auto)]
 
 use roll::telling::TellsSite;
 

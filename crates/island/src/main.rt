@@ -1,5 +1,7 @@
 // One island of sites under a broker: every site asks, what is under way is delivered and the holder frees, until every site
 // has been served twice. Prints each grant with its wait, then the totals and the bound that they keep.
+#![tactic(auto)]
+
 mod serving;
 
 use anyhow::anyhow;

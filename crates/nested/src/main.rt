@@ -1,5 +1,7 @@
 // A nest of ties with both kinds of island in it, 64 sites in all: every site asks once, and is served while messages are
 // delivered in an order drawn from a seed. Prints each grant with its wait, then the totals and the bound that they keep.
+#![tactic(auto)]
+
 mod schedule;
 mod serving;
 

@@ -3,7 +3,7 @@ use Rattle.std.proofs.Common.{◌≡◌, ℕ, ◌<◌, ◌≤◌, true, ap, inl,
 use Rattle.std.proofs.lemmas.Bool.{cases_eq}
 use Rattle.counting.specs.Tables.{total}
 use Rattle.counting.proofs.Tables.{total_none, total_most}
-use Rattle.counting.proofs.Tests.{First, first_of}
+use Rattle.counting.proofs.Tests.{First, first_exists}
 use Rattle.manager.specs.Laws.{Bounded, Lawful}
 use Rattle.manager.specs.Meaning.{limit, is_waiting}
 use Rattle.manager.specs.declared.status.Status.TheVariants.{Waiting, Holding}
@@ -42,7 +42,7 @@ module _ (s : State) (v : Sound s) where
   pub lawful : Lawful (meaning_of s)
   lawful = record {
     exclusive = λ i j hi hj p q. elim (cases_eq i j) [ inl e ↦ e | inr ne ↦ absurd (exclusive s v i j hi hj p q ne) ];
-    served = λ i hi w none. let m = first_of (λ j. is_waiting (s.status j)) (earlier s) (earlier_irreflexive s) (earlier_transitive s) s.sites i hi (ap is_waiting w) in earliest_calls none m.0 m.1;
+    served = λ i hi w none. let m = first_exists (λ j. is_waiting (s.status j)) (earlier s) (earlier_irreflexive s) (earlier_transitive s) s.sites i hi (ap is_waiting w) in earliest_calls none m.0 m.1;
     called_holds = λ i hi. called_holds s i;
     called_wanted = λ i hi c. let w = called_some s i c in (w.0, w.1, v.deferred_waits w.0 i w.1 hi w.2);
     barred_free = λ i j hi hj b. barred_free s i b j hj;

@@ -1,4 +1,5 @@
 // Ricart and Agrawala's algorithm as mathematics: specs/ has its rules and its invariant, proofs/ that the rules are lawful.
+#![tactic(auto)]
 
 // How far one site's request has come with another site.
 #[derive(Clone, Copy, PartialEq, Eq, Debug)]

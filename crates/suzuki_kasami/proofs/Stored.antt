@@ -7,7 +7,7 @@ use Rattle.counting.proofs.Sums.{times_append}
 use Rattle.suzuki_rules.specs.Reading.{empty}
 use Rattle.suzuki_rules.specs.Rules.{rest}
 use Rattle.suzuki_rules.specs.State.{queued}
-use Rattle.suzuki_kasami.specs.Waiting.{pushed, first_of}
+use Rattle.suzuki_kasami.specs.Waiting.{pushed, first_site}
 
 pub stored_empty : (n : ℕ) (xs : List ℕ) → n ≤ length xs → eqb n 0 ≡ empty (take n xs)
 stored_empty zero xs h = refl
@@ -45,7 +45,7 @@ set_places xs i x h l all k b = elim (cases_eq k i) [
   | inr ne ↦ rw (get_or-set_other xs i k x 0 ne) (all k b)
 ]
 
-pub popped_first : (xs : List ℕ) (n : ℕ) → n ≤ length xs → 0 < n → Some (get_or xs 0 0) ≡ first_of (take n xs)
+pub popped_first : (xs : List ℕ) (n : ℕ) → n ≤ length xs → 0 < n → Some (get_or xs 0 0) ≡ first_site (take n xs)
 popped_first xs zero h l = absurd (omega arith)
 popped_first [] (suc n) h l = absurd (omega arith)
 popped_first (x ∷ xs) (suc n) h l = refl

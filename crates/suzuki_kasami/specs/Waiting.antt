@@ -6,9 +6,9 @@ use Rattle.suzuki_rules.specs.State.{State, queued, wants}
 abbrev pub pushed : List ℕ → ℕ → List ℕ
 pushed q j = cond (nat_lt (length q) 16) (q ++ (j ∷ [])) q
 
-abbrev pub first_of : List ℕ → Option ℕ
-first_of [] = None
-first_of (j ∷ q) = Some j
+abbrev pub first_site : List ℕ → Option ℕ
+first_site [] = None
+first_site (j ∷ q) = Some j
 
 -- Site i queues j, where there is room, unless it is queued already or is not known to wait.
 abbrev pub noted : State → ℕ → List ℕ → ℕ → List ℕ

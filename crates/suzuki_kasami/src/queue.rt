@@ -3,7 +3,7 @@ ghost use Rattle.std.specs.Prelude.{◌≡◌, ℕ, ◌<◌, ◌≤◌, [], take
 ghost use Rattle.suzuki_rules.specs.Reading.{empty};
 ghost use Rattle.suzuki_rules.specs.Rules.{rest};
 ghost use Rattle.suzuki_rules.specs.State.{queued};
-ghost use Rattle.suzuki_kasami.specs.Waiting.{pushed, first_of};
+ghost use Rattle.suzuki_kasami.specs.Waiting.{pushed, first_site};
 
 // Its sites stand in the first `len` places of `items`.
 #[derive(Clone, Copy)]
@@ -55,7 +55,7 @@ impl Queue {
 
     // Takes out the first site.
     pub(crate) fn pop(&mut self) -> Option<usize>
-        ensures first { result ≡ first_of (take self.old.len self.old.items) }
+        ensures first { result ≡ first_site (take self.old.len self.old.items) }
         ensures rest { take self.new.len self.new.items ≡ rest (take self.old.len self.old.items) }
         ensures within { IfSome result (λ site. site < 16) }
     {

@@ -65,9 +65,9 @@ called_kept s s' i n q h w c = called_from s' i h (elim (called_wanted s i c) [
 ])
 
 -- A queue that is not empty has a site in it.
-pub first_of : (q : List ℕ) → empty q ≡ false → (j : ℕ) × (0 < times q j)
-first_of [] h = grind arith
-first_of (j ∷ q) h = (j, grind (arith, nat_tests))
+pub queued_some : (q : List ℕ) → empty q ≡ false → (j : ℕ) × (0 < times q j)
+queued_some [] h = grind arith
+queued_some (j ∷ q) h = (j, grind (arith, nat_tests))
 
 pub requests_most : (s : State) (a b : ℕ) → requests s a b ≤ 1
 requests_most s a b = grind arith

@@ -12,7 +12,7 @@ use Rattle.suzuki_rules.specs.Rules.{order, searched, token_after, rest, freed_b
 use Rattle.suzuki_rules.specs.State.{State, wants}
 use Rattle.suzuki_rules.specs.declared.Token.{Token}
 use Rattle.suzuki_rules.specs.declared.Token.TheVariants.{At, Sent}
-use Rattle.suzuki_rules.proofs.Facts.{Wanted, called_wanted, first_of, known_most, sent_bars, wanted_waits}
+use Rattle.suzuki_rules.proofs.Facts.{Wanted, called_wanted, queued_some, known_most, sent_bars, wanted_waits}
 use Rattle.suzuki_rules.proofs.Search.{Visits, visits_site, order_visits, times_searched, searched_from, searched_once}
 
 -- The token stays only with an empty queue, and else leaves for a site of the queue.
@@ -59,7 +59,7 @@ module _ (js : List ℕ) (s : State) (i : ℕ) (visits : Visits js s.sites i) (v
   -- Whoever is queued or wanted is found.
   wanted_found : Wanted s i → empty (found js s i) ≡ false
   wanted_found (inl p) =
-      let f = first_of s.queue p in
+      let f = queued_some s.queue p in
       member_fills (found js s i) f.0 (grind (arith, times_searched s i s.queue js f.0, f.1))
   wanted_found (inr w) =
       member_fills (found js s i) w.0 (grind (arith, nat_tests, times_searched s i s.queue js w.0, visits w.0, w.1, w.2, w.3))

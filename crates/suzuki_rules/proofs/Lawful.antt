@@ -13,7 +13,7 @@ use Rattle.suzuki_rules.specs.Rules.{requests}
 use Rattle.suzuki_rules.specs.State.{State}
 use Rattle.suzuki_rules.specs.declared.Token.{Token}
 use Rattle.suzuki_rules.specs.declared.Token.TheVariants.{At, Sent}
-use Rattle.suzuki_rules.proofs.Facts.{barred_sent, called_holds, called_wanted, called_from, first_of, requests_most, requests_none, wanted_waits}
+use Rattle.suzuki_rules.proofs.Facts.{barred_sent, called_holds, called_wanted, called_from, queued_some, requests_most, requests_none, wanted_waits}
 
 module _ (s : State) (v : Sound s) where
   pub exclusive : (i j : ℕ) → i < s.sites → j < s.sites → s.status i ≡ Holding → s.status j ≡ Holding → i ≡ j
@@ -52,7 +52,7 @@ module _ (s : State) (v : Sound s) where
     served = λ i hi w none. served i hi w none s.token refl;
     called_holds = λ i hi c. called_holds s i c;
     called_wanted = λ i hi c. elim (called_wanted s i c) [
-      | inl q ↦ let f = first_of s.queue q in (f.0, v.queue_site f.0 f.1, v.queue_waits f.0 f.1)
+      | inl q ↦ let f = queued_some s.queue q in (f.0, v.queue_site f.0 f.1, v.queue_waits f.0 f.1)
       | inr w ↦ (w.0, w.1, wanted_waits s i w.0 v (v.holder_has i hi (called_holds s i c)) w.1 w.2 w.3)
     ];
     barred_free = λ i j hi hj b h. let t = barred_sent s i b in grind (arith, v.holder_has j hj h, t.1);

@@ -2,6 +2,7 @@
 ghost use Rattle.tie_rules.specs.Invariant.{Sound};
 ghost use Rattle.tie_rules.specs.Reading.{meaning_of};
 ghost use Rattle.tie_rules.specs.Rules.{Parks, Asks, Frees, Steps};
+ghost use Rattle.tie_rules.proofs.Laws.{tie_laws};
 ghost use Rattle.tie.specs.Reading.{tie_of};
 
 use crate::sites::{Place, own_holder};
@@ -25,6 +26,12 @@ impl<L: Manager, R: Manager, O: Manager> Manager for Tie<L, R, O> {
     ghost frees = { λ m i n. Frees L.Manager R.Manager O.Manager (tie_of m) i (tie_of n) };
 
     ghost steps = { λ m k g n. Steps L.Manager R.Manager O.Manager (tie_of m) k g (tie_of n) };
+
+    ghost laws = { tie_laws
+        (record { meaning = L.meaning; sound = L.sound; parks = L.parks; asks = L.asks; frees = L.frees; steps = L.steps })
+        (record { meaning = R.meaning; sound = R.sound; parks = R.parks; asks = R.asks; frees = R.frees; steps = R.steps })
+        (record { meaning = O.meaning; sound = O.sound; parks = O.parks; asks = O.asks; frees = O.frees; steps = O.steps })
+        L.laws R.laws O.laws tie_of (λ m. m.young) };
 
     fn sites(&self) -> usize {
         self.count_sites()

@@ -1,4 +1,6 @@
 // The tie: two islands and an outer manager, each of any kind, that are one manager together.
+#![tactic(auto)]
+
 mod asking;
 pub mod calls;
 mod gateways;

@@ -5,5 +5,5 @@ use Rattle.island.proofs.serving.free_holder.Goals as goal
 pub returns-in-Some : goal.returns-in-Some
 returns-in-Some g c = record { goes_on = λ w. one_call g.M.Manager g.met.M.Manager.laws (c.free.ensures.is_one_call w).performed }
 
-pub returns-in-default : goal.returns-in-default
-returns-in-default g c = record { goes_on = goes_nowhere g.M.Manager g.met.M.Manager.laws (records_of c.args.broker.now) }
+pub returns-in_default : goal.returns-in_default
+returns-in_default g c = record { goes_on = goes_nowhere g.M.Manager g.met.M.Manager.laws (records_of c.args.broker.now) }

@@ -8,5 +8,5 @@ returns-in-Some g c =
     let laws = g.met.M.Manager.laws in
     record { goes_on = goes_onward kind laws (λ w. one_call kind laws (c.free.ensures.is_one_call w).performed) c.ask_unserved.ensures.goes_on }
 
-pub returns-in-default : goal.returns-in-default
-returns-in-default g c = record { goes_on = goes_nowhere g.M.Manager g.met.M.Manager.laws (records_of c.args.broker.now) }
+pub returns-in_default : goal.returns-in_default
+returns-in_default g c = record { goes_on = goes_nowhere g.M.Manager g.met.M.Manager.laws (records_of c.args.broker.now) }

@@ -1,5 +1,4 @@
-use Rattle.std.proofs.Common.{◌≡◌, ℕ, ◌+◌, ◌<◌, ◌≤◌, List, Some, sym, refl, ap, ◌∙◌, subst, arith}
-use Rattle.manager.specs.declared.refusal.Refusal.TheVariants.{LimitReached}
+use Rattle.std.proofs.Common.{◌≡◌, ◌<◌, Some, sym, refl, ap, subst, arith}
 use Rattle.roll.specs.Contents.{room_of}
 use Rattle.history.specs.Calls.{Drained}
 use Rattle.history.specs.Calls.Does.{drains}
@@ -46,8 +45,8 @@ loop-bound-preserved g c =
       omega (arith, below),
       λ w.
           let d = c.loop-bound.invariant.1 w in
-          let (site, gs, out, added, told) = c.in-default.ensures.is_one_call d.well in
-          draining_more kind (records_of c.args.self.now) c.args.bound c.args.roll.now c.loop-bound.steps c.loop-bound.self c.step.new.self c.loop-bound.roll c.step.new.roll site c.in-default.field-0 gs below busy d out added,
+          let (site, gs, out, added, told) = c.in_default.ensures.is_one_call d.well in
+          draining_more kind (records_of c.args.self.now) c.args.bound c.args.roll.now c.loop-bound.steps c.loop-bound.self c.step.new.self c.loop-bound.roll c.step.new.roll site c.in_default.field-0 gs below busy d out added,
     )
 
 pub returns : goal.returns

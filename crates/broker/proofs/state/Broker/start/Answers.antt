@@ -1,4 +1,4 @@
-use Rattle.std.proofs.Common.{◌≡◌, ap, ◌∙◌}
+use Rattle.std.proofs.Common.{ap, ◌∙◌}
 use Rattle.history.proofs.Every.{begun}
 use Rattle.broker.specs.Reading.{records_of}
 use Rattle.broker.proofs.Answering.{accepted, ok_not_err}
@@ -8,7 +8,7 @@ use Rattle.broker.proofs.state.Broker.start.Goals as goal
 pub returns : goal.returns
 returns g c =
     let kind = g.M.Manager in
-    let parked = c.in-ok-park.ensures in
+    let parked = c.in_ok-park.ensures in
     let ok = accepted _ _ _ parked.answers in
     record {
       answers = parked.answers;

@@ -6,12 +6,12 @@ use Rattle.ricart_agrawala.proofs.Rows.{others_written}
 use Rattle.ricart_agrawala.proofs.States.{same_state}
 use Rattle.ricart_agrawala.proofs.state.RicartAgrawala.parked.Goals as goal
 
-pub invariant-of-result : goal.invariant-of-result
-invariant-of-result c =
+pub invariant_of-result : goal.invariant_of-result
+invariant_of-result c =
     let t = replicate 16 (replicate 16 Unasked) in
     let row : length c.with_others.result ≡ 16 = search rules in
     let wide : (a : ℕ) → a < 16 → length (get_or (set t c.args.site c.with_others.result) a []) ≡ 16 = λ a h. wide_set t c.args.site c.with_others.result 16 (omega arith) row a (wide_flat 16 16 Unasked a h) in
-    (c.requires.0, (c.requires.1.0, (wide, (omega arith, tt))))
+    record { fewest = c.requires.0; most = c.requires.1.0; wide = wide; young = omega arith }
 
 pub returns : goal.returns
 returns c =

@@ -11,13 +11,13 @@ use Rattle.ricart_agrawala.proofs.Answering.{answered_all}
 use Rattle.ricart_agrawala.proofs.States.{same_state}
 use Rattle.ricart_agrawala.proofs.state.RicartAgrawala.release.Goals as goal
 
-pub invariant-of-self : goal.invariant-of-self
-invariant-of-self c =
+pub invariant_of-self : goal.invariant_of-self
+invariant_of-self c =
     let m = c.answer_deferred.new.self in
     let rows : length m.stages ≡ 16 = search rules in
     let wide : (a : ℕ) → a < 16 → length (get_or (set m.stages c.args.site (replicate 16 Unasked)) a []) ≡ 16 = λ a h. wide_set m.stages c.args.site (replicate 16 Unasked) 16 (omega arith) (length-replicate 16 Unasked) a (m.wide a h) in
     let same : m.age ≡ c.args.self.now.age = ap (λ (t : State). t.age) c.answer_deferred.ensures in
-    (m.fewest, (m.most, (wide, (omega arith, tt))))
+    record { fewest = m.fewest; most = m.most; wide = wide; young = omega arith }
 
 pub returns : goal.returns
 returns c =

@@ -9,14 +9,14 @@ use Rattle.ricart_agrawala.proofs.Rows.{others_written}
 use Rattle.ricart_agrawala.proofs.States.{same_state}
 use Rattle.ricart_agrawala.proofs.state.RicartAgrawala.request.Goals as goal
 
-pub invariant-of-self-2 : goal.invariant-of-self-2
-invariant-of-self-2 c =
+pub invariant_of-self-2 : goal.invariant_of-self-2
+invariant_of-self-2 c =
     let m = c.args.self.now in
     let fewer : m.sites ≤ 16 = m.most in
     let rows : length m.stages ≡ 16 = search rules in
     let row : length c.with_others.result ≡ 16 = search rules in
     let wide : (a : ℕ) → a < 16 → length (get_or (set m.stages c.args.site c.with_others.result) a []) ≡ 16 = λ a h. wide_set m.stages c.args.site c.with_others.result 16 (omega arith) row a (m.wide a h) in
-    (m.fewest, (m.most, (wide, (omega arith, tt))))
+    record { fewest = m.fewest; most = m.most; wide = wide; young = omega arith }
 
 pub returns : goal.returns
 returns c =

@@ -14,9 +14,9 @@ returns c =
       within = c.args.self.now.places 0 (omega arith);
     }
 
-pub invariant-of-self : goal.invariant-of-self
-invariant-of-self c =
+pub invariant_of-self : goal.invariant_of-self
+invariant_of-self c =
     let places : length c.args.self.now.items ≡ 16 = search rules in
     let fits : c.args.self.now.len ≤ 16 = c.args.self.now.fits in
     let spots = turned_places c.args.self.now.items c.rotate_left.new.self places c.rotate_left.ensures.by_index.0 c.rotate_left.ensures.by_index.1 c.args.self.now.places in
-    (omega arith, (spots, tt))
+    record { fits = omega arith; places = spots }

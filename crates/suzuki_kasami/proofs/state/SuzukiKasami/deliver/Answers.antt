@@ -8,4 +8,4 @@ returns-in-Some c =
 
 pub returns : goal.returns
 returns c =
-    token_delivered (state_of c.args.self.now) c.args.k c.in-Sent.site (state_of c.arrive.new.self) c.in-Sent.is c.in-default.ensures c.requires.0 c.arrive.ensures
+    token_delivered (state_of c.args.self.now) c.args.k c.in-Sent.site (state_of c.arrive.new.self) c.in-Sent.is c.in_default.ensures c.requires.0 c.arrive.ensures

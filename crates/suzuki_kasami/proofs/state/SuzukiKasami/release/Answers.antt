@@ -18,7 +18,7 @@ returns c sound =
     let fewer : m.sites ≤ 16 = m.most in
     let numbers : length m.served ≡ 16 = search rules in
     let all : found ≡ searched s i s.queue (order i m.sites) = c.search-queue.ensures ∙ gathered_sound s i sound (omega arith) in
-    let sent : c.passed-to-token.result ≡ token_after found m.token = c.passed-to-token.ensures.token ∙ ap (λ o. elim o [ Some j ↦ Sent j | None ↦ m.token ]) c.pop.ensures.first ∙ passed_to found m.token in
+    let sent : c.passed_to-token.result ≡ token_after found m.token = c.passed_to-token.ensures.token ∙ ap (λ o. elim o [ Some j ↦ Sent j | None ↦ m.token ]) c.pop.ensures.first ∙ passed_to found m.token in
     same_state _ _ record {
       sites = refl;
       status = read_reset m.status i Idle;

@@ -6,5 +6,5 @@ use Rattle.tie.proofs.calls.TieManager.ask.Goals as goal
 pub returns : goal.returns
 returns g c = λ v.
     let m = meaning_of g.L.Manager g.R.Manager g.O.Manager (tie_of c.args.self.now) in
-    let known = may_name m c.args.site (accepted _ _ _ c.in-ok-may-name.ensures) in
-    accepted_call _ _ _ _ _ _ _ (c.in-ok-status.ensures.asks v known.1 known.0)
+    let known = may_name m c.args.site (accepted _ _ _ c.in_ok-may_name.ensures) in
+    accepted_call _ _ _ _ _ _ _ (c.in_ok-status.ensures.asks v known.1 known.0)

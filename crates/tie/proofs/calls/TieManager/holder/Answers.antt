@@ -14,4 +14,4 @@ pub returns-in-None : goal.returns-in-None
 returns-in-None g c =
     let right = g.R.Manager.meaning c.args.self.now.right in
     let offset = ap (λ (n : ℕ). reachable (own (last right) n (holder_shown right))) c.border.ensures in
-    right_holds g.L.Manager g.R.Manager g.O.Manager (tie_of c.args.self.now) c.own-holder-in-None.result c.in-None.ensures (c.own-holder-in-None.ensures ∙ offset)
+    right_holds g.L.Manager g.R.Manager g.O.Manager (tie_of c.args.self.now) c.own_holder-in-None.result c.in-None.ensures (c.own_holder-in-None.ensures ∙ offset)

@@ -13,7 +13,7 @@ returns-in-Left g c = record {
 pub returns-in-Right : goal.returns-in-Right
 returns-in-Right g c = record {
   steps = λ v young within.
-      right_carried g.L.Manager g.R.Manager g.O.Manager g.met.L.Manager.laws g.met.R.Manager.laws g.met.O.Manager.laws (tie_of c.args.self.now) v young c.args.k c.step-island-in-Right.result c.in-Right.k c.border-border.result c.step-island-in-Right.new.island c.border-border.ensures (c.in-Right.ensures within) c.step-island-in-Right.ensures;
+      right_carried g.L.Manager g.R.Manager g.O.Manager g.met.L.Manager.laws g.met.R.Manager.laws g.met.O.Manager.laws (tie_of c.args.self.now) v young c.args.k c.step_island-in-Right.result c.in-Right.k c.border-border.result c.step_island-in-Right.new.island c.border-border.ensures (c.in-Right.ensures within) c.step_island-in-Right.ensures;
   age = refl;
 }
 

@@ -19,5 +19,5 @@ returns g c =
     let t' = tie_of c.begin_at.new.self in
     let m = meaning_of kl kr ko t in
     let within : m.sites - 1 < m.sites = omega (arith, (bounded kl kr ko t ll lr lo (omega arith)).fewest) in
-    let parked = subst (λ (n : ℕ). Parks kl kr ko t n t') c.last-site-last.ensures c.begin_at.ensures in
+    let parked = subst (λ (n : ℕ). Parks kl kr ko t n t') c.last_site-last.ensures c.begin_at.ensures in
     record { parked = parked; sound = (park_lawful kl kr ko ll lr lo t t' (m.sites - 1) (site_accepted m (m.sites - 1) within) parked).0 }
