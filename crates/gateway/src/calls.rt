@@ -3,7 +3,9 @@ ghost use Rattle.gateway.specs.Automaton.{last};
 ghost use Rattle.gateway.specs.Parts.{AskedAt, FreedAt};
 
 use crate::questions::last_site;
-use manager::{Manager, Refusal, Status};
+use manager::interface::Manager;
+use manager::refusal::Refusal;
+use manager::status::Status;
 
 pub(crate) fn ask_outer<O: Manager>(outer: &mut O, post: usize) -> Result<Status, Refusal>
     ensures asks_at_its_post { AskedAt O.Manager outer.old post outer.new result }

@@ -6,7 +6,8 @@ ghost use Rattle.gateway.specs.Moves.{GoesOrRefuses, AdvancesOrRefuses};
 use crate::calls::{ask_island, ask_outer, free_island, free_outer};
 use crate::questions::{has_site, is_called, is_holding, last_site};
 use crate::state::Gateway;
-use manager::{Manager, Refusal};
+use manager::interface::Manager;
+use manager::refusal::Refusal;
 
 impl Gateway {
     // Is a move due? The gateway acts at the outer manager's site `post`; if there is no such site, none ever is.

@@ -3,7 +3,8 @@ ghost use Rattle.std.specs.Prelude.{◌≡◌, ◌&&◌, nat_lt};
 ghost use Rattle.manager.specs.Meaning.{is_holding};
 ghost use Rattle.gateway.specs.Automaton.{last};
 
-use manager::{Manager, Status};
+use manager::interface::Manager;
+use manager::status::Status;
 
 // The last site of an island, which is its gateway.
 pub fn last_site<I: Manager>(island: &I) -> usize

@@ -1,4 +1,8 @@
 // Examples of the library's use, as tests: each is proved safe, and then run.
+#![tactic(auto)]
+
+#[cfg(test)]
+mod hand_over;
 #[cfg(test)]
 mod refusals;
 #[cfg(test)]
@@ -13,3 +17,5 @@ mod suzuki_kasami_runs;
 mod ties;
 #[cfg(test)]
 mod wait_lists;
+#[cfg(test)]
+mod words;

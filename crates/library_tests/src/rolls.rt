@@ -46,3 +46,12 @@ fn elements_are_counted_by_the_site_that_they_tell(rt: HostRuntime) {
     assert_eq!(rt; roll.count(1), 0);
     assert_eq!(rt; roll.len(), 3);
 }
+
+#[test]
+fn a_roll_tells_whether_it_is_empty(rt: HostRuntime) {
+    let mut memory = [FIRST];
+    let mut roll = Roll::new(&mut memory);
+    assert!(rt; roll.is_empty());
+    assert_eq!(rt; roll.push(SECOND), Ok(()));
+    assert!(rt; !roll.is_empty());
+}

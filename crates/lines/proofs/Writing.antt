@@ -4,8 +4,8 @@ use borrow.Rule.Slice.PartMut.{put_mid}
 use Rattle.std.specs.List.{between}
 use Rattle.std.proofs.lemmas.List.{take_at, drop_at, take-append-drop, take_rest, drop-drop, drop_all, append_assoc, append-nil, length-append, length-drop, length-take-le}
 use Rattle.std.proofs.lemmas.Bool.Decides.{nat_tests}
-use Rattle.manager.specs.declared.refusal.Refusal.{Refusal}
-use Rattle.manager.specs.declared.refusal.Refusal.TheVariants.{ShortOutput}
+use Rattle.lines.specs.declared.refusal.Refusal.{Refusal}
+use Rattle.lines.specs.declared.refusal.Refusal.TheVariants.{ShortOutput}
 use Rattle.lines.specs.Written.{Written}
 
 module _ (text before after : List ℕ) where

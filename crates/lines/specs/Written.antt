@@ -1,7 +1,7 @@
 -- What writing a text at the front of lent output answers and leaves. Assumes nothing.
 use Rattle.std.specs.Prelude.{◌≡◌, ℕ, ◌<◌, ◌≤◌, cond, List, length, take, drop, Ok, Err, Result, nat_lt}
-use Rattle.manager.specs.declared.refusal.Refusal.{Refusal}
-use Rattle.manager.specs.declared.refusal.Refusal.TheVariants.{ShortOutput}
+use Rattle.lines.specs.declared.refusal.Refusal.{Refusal}
+use Rattle.lines.specs.declared.refusal.Refusal.TheVariants.{ShortOutput}
 
 -- The text's length, or the refusal where the output is shorter than the text.
 abbrev pub writing_answer : (text before : List ℕ) → Result ℕ Refusal

@@ -5,7 +5,7 @@ ghost use Rattle.lines.specs.Texts.{line_of, grant_line, refusal_line, totals_li
 ghost use Rattle.lines.specs.Written.{Written};
 
 use crate::buffer::LineBuffer;
-use manager::Refusal;
+use crate::refusal::Refusal;
 
 // `G site waited`: the resource was given to the site, which had waited for so many steps.
 pub fn write_grant(out: &mut [u8], site: usize, waited: u64) -> Result<usize, Refusal>

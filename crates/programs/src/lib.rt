@@ -1,4 +1,6 @@
 // What the small programs share: how they read an argument, ask for a site, and print what came of a run.
+#![tactic(auto)]
+
 mod arguments;
 mod printing;
 mod report;

@@ -3,9 +3,10 @@ ghost use Rattle.std.specs.Prelude.{◌≡◌, Some};
 ghost use Rattle.programs.specs.Printed.{grant_in_words, most_steps, ReportOf};
 
 use crate::report::Report;
-use broker::{Broker, Grant};
-use manager::Manager;
-use roll::Roll;
+use broker::state::Broker;
+use history::Grant;
+use manager::interface::Manager;
+use roll::list::Roll;
 use std::{fmt, io};
 
 // A grant as the programs print it.

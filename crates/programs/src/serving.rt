@@ -2,9 +2,10 @@
 ghost use Rattle.history.specs.Histories.{GoesOn};
 ghost use Rattle.broker.specs.Reading.{records_of};
 
-use broker::{Broker, Grant};
-use manager::Manager;
-use roll::Roll;
+use broker::state::Broker;
+use history::Grant;
+use manager::interface::Manager;
+use roll::list::Roll;
 
 // Asks for a site unless the roll has so many grants of it.
 pub fn ask_unless_served<M: Manager>(

@@ -7,7 +7,7 @@ ghost use Rattle.lines.specs.Written.{Written};
 
 use crate::buffer::{LONGEST_LINE, LineBuffer};
 use crate::digits::{MOST_DIGITS, write_digits};
-use manager::Refusal;
+use crate::refusal::Refusal;
 
 impl LineBuffer {
     pub fn new() -> LineBuffer

@@ -1,5 +1,5 @@
 // What a roll answers: how many elements it has and can still take, which they are, and how many tell a site.
-ghost use Rattle.std.specs.Prelude.{◌≡◌};
+ghost use Rattle.std.specs.Prelude.{◌≡◌, ◌==◌};
 ghost use Rattle.std.specs.List.{slice_get};
 ghost use Rattle.roll.specs.Contents.{written, room_of};
 ghost use Rattle.roll.specs.Tellers.{tellers};
@@ -13,6 +13,13 @@ impl<'a, T: Copy> Roll<'a, T> {
         ensures { result ≡ self.now.len }
     {
         self.len
+    }
+
+    pub fn is_empty(&self) -> bool
+        ensures tells_whether_none { result ≡ (self.now.len == 0) }
+    {
+        let elements = self.len();
+        elements == 0
     }
 
     // How many places are free.

@@ -21,8 +21,8 @@ loop-rest-preserved c =
 pub bounds-field-count-2 : goal.bounds-field-count-2
 bounds-field-count-2 c = search (rules, decimal_nonempty)
 
-pub slice-bounds-reverse-end : goal.slice-bounds-reverse-end
-slice-bounds-reverse-end c = search (rules, decimal_nonempty, length-set)
+pub slice_bounds-reverse-end : goal.slice_bounds-reverse-end
+slice_bounds-reverse-end c = search (rules, decimal_nonempty, length-set)
 
 pub returns : goal.returns
 returns c =
