@@ -8,10 +8,10 @@ use crate::digits::MOST_DIGITS;
 mod growth;
 
 // A letter of at most 4 bytes, at most 5 numbers with a space before each, and the line's end.
-pub const LONGEST_LINE: usize = 4 + 5 * (1 + MOST_DIGITS) + 1;
+pub(crate) const LONGEST_LINE: usize = 4 + 5 * (1 + MOST_DIGITS) + 1;
 
 #[derive(Drop)]
-pub struct LineBuffer {
+pub(crate) struct LineBuffer {
     bytes: [u8; LONGEST_LINE],
     len: usize,
     ghost fits: { len ≤ longest_line },

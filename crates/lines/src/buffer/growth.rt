@@ -10,7 +10,7 @@ use crate::digits::{MOST_DIGITS, write_digits};
 use crate::refusal::Refusal;
 
 impl LineBuffer {
-    pub fn new() -> LineBuffer
+    pub(crate) fn new() -> LineBuffer
         ensures holds_nothing { held result ≡ [] }
         ensures has_no_length { result.len ≡ 0 }
     {
@@ -21,7 +21,7 @@ impl LineBuffer {
     }
 
     // Adds bytes at the end.
-    pub fn push(&mut self, text: &[u8])
+    pub(crate) fn push(&mut self, text: &[u8])
         requires has_room { self.old.len + length text.now ≤ longest_line }
         ensures adds_the_text { held self.new ≡ held self.old ++ text.now }
         ensures grows_by_its_length { self.new.len ≡ self.old.len + length text.now }
@@ -32,7 +32,7 @@ impl LineBuffer {
     }
 
     // Adds a space and a number at the end.
-    pub fn push_number(&mut self, number: u64)
+    pub(crate) fn push_number(&mut self, number: u64)
         requires has_room { self.old.len + longest_field ≤ longest_line }
         ensures adds_space_and_number { held self.new ≡ held self.old ++ spaced number }
         ensures grows_by_one_field_at_most { self.new.len ≤ self.old.len + longest_field }
@@ -44,7 +44,7 @@ impl LineBuffer {
     }
 
     // Copies what is held to the front of the output, if it has the room.
-    pub fn copy_to(&self, out: &mut [u8]) -> Result<usize, Refusal>
+    pub(crate) fn copy_to(&self, out: &mut [u8]) -> Result<usize, Refusal>
         ensures writes_what_is_held { Written (held self.now) out.old out.new result }
     {
         if out.len() < self.len {
