@@ -15,8 +15,8 @@ import sys
 
 NAME = r"[A-Za-z_][\w'₁₂]*(?:-[\w'₁₂]+)+"
 WORD = re.compile(r"(?<![\w'·◌-])" + NAME + r"(?![\w'◌-])")
-# Where the plain respelling would be taken for something else, a parameter or field of src/ among them, another name is written.
-OTHER = {}
+# The port script's `first_of` is the name of a tactic: each crate that defines or cites it has another name for it.
+OTHER = {"suzuki_kasami": "first_site", "suzuki_rules": "queued_some", "ricart_rules": "first_exists", "counting": "first_exists"}
 
 
 def sources():
@@ -98,7 +98,7 @@ def main():
     # A step of the check has the name of the function that is called, which keeps its underscores.
     goals = {n for t in texts.values() for n in re.findall(r"\bgoal\.(" + NAME + ")", code(t))}
     own = set(made({f: t for f, t in texts.items() if not of_function(f)})) - goals - imported(texts)
-    words = {n: OTHER.get(n, n.replace("-", "_")) for n in names if n not in keep or n in source or n in own}
+    words = {n: n.replace("-", "_") for n in names if n not in keep or n in source or n in own}
     seen = set()
     for t in texts.values():
         seen |= set(WORD.findall(code(t)))
@@ -117,6 +117,9 @@ def main():
         return
     for f, t in texts.items():
         new = WORD.sub(lambda m: words.get(m.group(), m.group()), t)
+        crate = f.split("/")[1]
+        if crate in OTHER and not f.endswith(".edit"):
+            new = re.sub(r"(?<![\w'.-])first_of(?![\w'-])", OTHER[crate], new)
         if new != t:
             open(f, "w", encoding="utf-8").write(new)
     print("respelled", len(words), "names")
