@@ -2,9 +2,15 @@
 #![tactic(auto)]
 
 #[cfg(test)]
+mod gateways;
+#[cfg(test)]
 mod hand_over;
 #[cfg(test)]
 mod refusals;
+#[cfg(test)]
+mod replay_lines;
+#[cfg(test)]
+mod reports;
 #[cfg(test)]
 mod ricart_agrawala_runs;
 #[cfg(test)]

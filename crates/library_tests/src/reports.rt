@@ -1,0 +1,54 @@
+// What the programs may share: a number of their arguments, an ask, and the report of a run.
+use broker::state::Broker;
+use history::Grant;
+use programs::{PrintedGrant, Report, argument, ask_unless_served, number_within, print_run};
+use roll::list::Roll;
+use std::test::Fail;
+use suzuki_kasami::state::SuzukiKasami;
+
+#[test]
+fn a_number_of_an_argument_is_within_its_bounds(rt: HostRuntime) -> Result<(), Fail> {
+    assert_eq!(rt; number_within("2", 2, 16), Some(2));
+    assert_eq!(rt; number_within("16", 2, 16), Some(16));
+    assert_eq!(rt; number_within("1", 2, 16), None);
+    assert_eq!(rt; number_within("17", 2, 16), None);
+    assert_eq!(rt; number_within("many", 2, 16), None);
+    assert!(rt; argument(&rt, 1000)?.is_none());
+    Ok(())
+}
+
+#[test]
+fn a_site_is_asked_for_until_it_has_been_served(rt: HostRuntime) {
+    let mut memory = [Grant { site: 0, waited: 0 }; 4];
+    let mut roll = Roll::new(&mut memory);
+    let mut broker = Broker::new(SuzukiKasami::new(3));
+    ask_unless_served(&mut broker, &mut roll, 0, 0);
+    assert_eq!(rt; broker.asks(), 0);
+    ask_unless_served(&mut broker, &mut roll, 0, 1);
+    assert_eq!(rt; broker.asks(), 1);
+    assert_eq!(rt; roll.push(Grant { site: 1, waited: 2 }), Ok(()));
+    ask_unless_served(&mut broker, &mut roll, 1, 1);
+    assert_eq!(rt; broker.asks(), 1);
+}
+
+#[test]
+fn a_run_is_reported(rt: HostRuntime) -> Result<(), Fail> {
+    let heap = rt.alloc();
+    let mut memory = [Grant { site: 0, waited: 0 }; 4];
+    let mut roll = Roll::new(&mut memory);
+    let mut broker = Broker::new(SuzukiKasami::new(3));
+    assert!(rt; broker.ask(0, &mut roll).is_ok());
+    let report = Report::of(&broker);
+    assert_eq!(rt; report.most_steps(), 8);
+    assert_eq!(rt;
+        format!(in heap; "{report}")?.as_str(),
+        "kind S, 3 sites: asks 1, frees 0, steps 0\ntoll 4: at most 8 steps"
+    );
+    let printed = PrintedGrant(Grant { site: 2, waited: 7 });
+    assert_eq!(rt;
+        format!(in heap; "{printed}")?.as_str(),
+        "site 2 holds after 7 steps"
+    );
+    print_run(&rt, &broker, &roll)?;
+    Ok(())
+}
