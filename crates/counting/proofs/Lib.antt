@@ -1,4 +1,5 @@
 pub mod Arrays
+pub mod Ranges
 pub mod Sums
 pub mod Tables
 pub mod Tests

@@ -1,3 +1,4 @@
+pub mod Cells
 pub mod Sizes
 pub mod Sums
 pub mod Tables
