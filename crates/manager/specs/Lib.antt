@@ -1,6 +1,7 @@
 pub mod Answers
 pub mod Calls
 pub mod Effects
+pub mod Islands
 pub mod Kinds
 pub mod Laws
 pub mod Meaning

@@ -14,47 +14,39 @@ pub const LIMIT: u64 = 1_000_000_000_000_000;
 pub fn check_site(site: usize, sites: usize) -> Result<(), Refusal>
     ensures { result ≡ refuse_if (nat_le sites site) NoSite }
 {
-    if site >= sites {
-        return Err(Refusal::NoSite);
-    }
-    Ok(())
+    refuse_if(site >= sites, Refusal::NoSite)
 }
 
 pub fn check_age(age: u64) -> Result<(), Refusal>
     ensures { result ≡ refuse_if (nat_le limit age) Worn }
 {
-    if age >= LIMIT {
-        return Err(Refusal::Worn);
-    }
-    Ok(())
+    refuse_if(age >= LIMIT, Refusal::Worn)
 }
 
 // An ask is for a site that is idle,
 pub fn check_idle(status: Status) -> Result<(), Refusal>
     ensures { result ≡ refuse_if (not (is_idle status)) NotIdle }
 {
-    if !status.is_idle() {
-        return Err(Refusal::NotIdle);
-    }
-    Ok(())
+    refuse_if(!status.is_idle(), Refusal::NotIdle)
 }
 
 // and a free for one that holds.
 pub fn check_holding(status: Status) -> Result<(), Refusal>
     ensures { result ≡ refuse_if (not (is_holding status)) NotHolding }
 {
-    if !status.is_holding() {
-        return Err(Refusal::NotHolding);
-    }
-    Ok(())
+    refuse_if(!status.is_holding(), Refusal::NotHolding)
 }
 
 // A step carries out thing number k of those under way.
 pub fn check_thing(k: u64, underway: u64) -> Result<(), Refusal>
     ensures { result ≡ refuse_if (nat_le underway k) NoThing }
 {
-    if k >= underway {
-        return Err(Refusal::NoThing);
-    }
-    Ok(())
+    refuse_if(k >= underway, Refusal::NoThing)
+}
+
+// The refusal, if it is due.
+fn refuse_if(due: bool, refusal: Refusal) -> Result<(), Refusal>
+    ensures refuses_if_due { result ≡ refuse_if due refusal }
+{
+    if due { Err(refusal) } else { Ok(()) }
 }

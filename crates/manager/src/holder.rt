@@ -1,5 +1,6 @@
 // Who holds, by the statuses of the sites.
-ghost use Rattle.std.specs.Prelude.{◌≡◌, slice_index_or};
+ghost use Rattle.std.specs.Prelude.{◌≡◌, take, slice_index_or};
+ghost use Rattle.std.specs.List.{position};
 ghost use Rattle.manager.specs.Answers.{first};
 ghost use Rattle.manager.specs.Meaning.{is_holding};
 ghost use Rattle.manager.specs.declared.status.Status.TheVariants.{Idle};
@@ -10,20 +11,11 @@ use crate::status::Status;
 pub fn first_holding(status: &[Status], sites: usize) -> Option<usize>
     ensures { result ≡ first (λ i. is_holding (slice_index_or status.now i Idle)) sites }
 {
-    for site in 0..sites {
-        if holds_at(status, site) {
-            return Some(site);
-        }
-    }
-    None
+    position_holding(status, sites)
 }
 
-// Does the site hold? One with no status does not.
-fn holds_at(status: &[Status], site: usize) -> bool
-    ensures { result ≡ is_holding (slice_index_or status.now site Idle) }
+fn position_holding(status: &[Status], sites: usize) -> Option<usize>
+    ensures is_the_position { result ≡ position is_holding (take sites status.now) }
 {
-    match status.get(site) {
-        Some(status) => status.is_holding(),
-        None => false,
-    }
+    status.iter().take(sites).position(|site| site.is_holding())
 }

@@ -15,7 +15,8 @@ pub trait Manager {
 
     ghost meaning: { Self → Meaning };
 
-    // The mark of soundness: parking sets it whatever stood before, and every call keeps it.
+    // The mark of soundness: parking sets it whatever stood before, and every call keeps it. A mark and no fact of each type, so
+    // that a manager that is to be parked may stand in any state, and a tie may speak of its parts' marks.
     ghost sound: { Self → Type 0 };
 
     // What a carried-out call of this kind does, by the kind's own rules: the manager before, the site or thing

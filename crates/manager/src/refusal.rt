@@ -8,14 +8,14 @@ use std::fmt;
 
 #[derive(Clone, Copy, PartialEq, Eq, Debug)]
 pub enum Refusal {
-    NoSite,
-    Worn,
-    NotIdle,
-    NotHolding,
-    NoThing,
-    RollFull,
-    ShortWaitList,
-    LimitReached,
+    NoSite = 1,
+    Worn = 2,
+    NotIdle = 3,
+    NotHolding = 4,
+    NoThing = 5,
+    RollFull = 6,
+    ShortWaitList = 7,
+    LimitReached = 11,
 }
 
 impl Refusal {
@@ -23,16 +23,7 @@ impl Refusal {
     pub fn number(self) -> u8
         ensures { result ≡ number_of self }
     {
-        match self {
-            Refusal::NoSite => 1,
-            Refusal::Worn => 2,
-            Refusal::NotIdle => 3,
-            Refusal::NotHolding => 4,
-            Refusal::NoThing => 5,
-            Refusal::RollFull => 6,
-            Refusal::ShortWaitList => 7,
-            Refusal::LimitReached => 11,
-        }
+        self as u8
     }
 
     // What was refused, or why.
