@@ -1,21 +1,30 @@
 -- A step carries out the thing that was found.
-use Rattle.std.proofs.Common.{◌≡◌, ℕ, ◌<◌, ◌≤◌, false, ◌&&◌, ltb, [], get_or, Some, None, sym, ap, subst, arith}
-use Rattle.std.proofs.lemmas.Bool.{cond-true, and_from, lt-ltb}
-use Rattle.counting.specs.Tables.{total}
+use Rattle.std.proofs.Common.{◌≡◌, ℕ, ◌<◌, ◌≤◌, Bool, true, false, cond, ◌&&◌, ltb, [], get_or, Some, None, sym, refl, ap, subst, arith}
+use Rattle.counting.specs.Cells.{StandsAt}
+use Rattle.counting.specs.Tables.{before, total}
+use Rattle.counting.specs.declared.table.Spot.{Spot}
 use Rattle.suzuki_rules.specs.Reading.{meaning_of, tokens_sent}
 use Rattle.suzuki_rules.specs.Rules.{received, arrived, requests, Delivered, request_comes, token_comes}
 use Rattle.suzuki_rules.specs.State.{State}
 use Rattle.suzuki_rules.specs.declared.Token.TheVariants.{Sent}
-use Rattle.suzuki_kasami.specs.Reading.{state_of, link_of, Found}
+use Rattle.suzuki_kasami.specs.Reading.{state_of}
 use Rattle.suzuki_kasami.specs.declared.state.SuzukiKasami.{SuzukiKasami}
 
-pub request_delivered : (m : SuzukiKasami) (k a b : ℕ) (after : State) → Found m k a b → after ≡ received (state_of m) a b (get_or (get_or m.known a []) a 0) → Delivered (state_of m) k None after
-request_delivered m k a b after found e =
-    let number = get_or (get_or m.known a []) a 0 in
-    let near = ltb b m.sites in
-    let flag = get_or (get_or m.requests a []) b false in
-    let link : link_of m.sites m.requests m.known a b ≡ Some number = cond-true (near && flag) (Some number) None (and_from near flag (lt-ltb b m.sites found.receiver) found.sent) in
-    subst (Delivered (state_of m) k None) (sym e) (request_comes a b number found.sender found.receiver link found.place)
+-- A link that has something has the REQUEST, and no more.
+link_full : (here : Bool) (number earlier : ℕ) → earlier < elim (cond here (Some number) None) [ Some w ↦ 1 | None ↦ 0 ] →
+    (cond here (Some number) None ≡ Some number) × (earlier ≡ 0)
+link_full true number earlier h = (refl, omega arith)
+link_full false number earlier h = absurd (omega arith)
+
+pub request_delivered : (m : SuzukiKasami) (k : ℕ) (spot : Spot) (after : State) →
+    StandsAt (requests (state_of m)) m.island.sites k spot →
+    after ≡ received (state_of m) spot.row spot.column (get_or (get_or m.known spot.row []) spot.row 0) →
+    Delivered (state_of m) k None after
+request_delivered m k spot after found e =
+    let number = get_or (get_or m.known spot.row []) spot.row 0 in
+    let full = link_full (ltb spot.column m.island.sites && get_or (get_or m.requests spot.row []) spot.column false) number spot.earlier found.within in
+    let place : before (requests (state_of m)) m.island.sites spot.row spot.column ≡ k = omega (arith, found.place, full.1) in
+    subst (Delivered (state_of m) k None) (sym e) (request_comes spot.row spot.column number found.row found.column full.0 place)
 
 -- The token comes last.
 pub token_delivered : (s : State) (k t : ℕ) (after : State) → s.token ≡ Sent t → total (requests s) s.sites ≤ k → k < (meaning_of s).underway → after ≡ arrived s t → Delivered s k (Some t) after

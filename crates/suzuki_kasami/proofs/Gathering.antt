@@ -1,13 +1,16 @@
 -- A free's search for the sites that wait: 16 places are enough for it.
-use Rattle.std.proofs.Common.{◌≡◌, ℕ, ◌+◌, ◌<◌, ◌≤◌, Bool, true, false, cond, eqb, ltb, List, [], ◌∷◌, ◌++◌, length, sym, refl, ap, ◌∙◌, arith}
-use Rattle.std.proofs.lemmas.List.{append_assoc}
+use Rattle.std.proofs.Common.{◌≡◌, ℕ, ◌<◌, ◌≤◌, Bool, true, false, cond, eqb, ltb, List, [], ◌∷◌, ◌++◌, length, refl, ap, ◌∙◌, arith}
 use Rattle.std.proofs.lemmas.Bool.{cond-true, eq-eqb, lt-ltb, ltb-false}
+use Rattle.std.proofs.lemmas.Bool.Decides.{nat_tests}
 use Rattle.counting.specs.Sums.{times, one_if}
+use Rattle.counting.proofs.Sums.{times_append}
 use Rattle.suzuki_rules.specs.Invariant.{Sound}
-use Rattle.suzuki_rules.specs.Rules.{range, order, enqueued, searched}
+use Rattle.suzuki_rules.specs.Rules.{order, enqueued, searched, token_after, rest}
 use Rattle.suzuki_rules.specs.State.{State, queued, wants}
-use Rattle.suzuki_rules.proofs.Search.{range_more, order_visits, visits_site, searched_once, searched_site, room_for}
-use Rattle.suzuki_kasami.specs.Waiting.{pushed, noted, gathered}
+use Rattle.suzuki_rules.proofs.Search.{order_visits, visits_site, searched_once, searched_site, room_for}
+use Rattle.suzuki_rules.specs.declared.Token.{Token}
+use Rattle.suzuki_kasami.specs.Places.{place}
+use Rattle.suzuki_kasami.specs.Waiting.{AllBelow, pushed, noted, gathered}
 
 either : (in_queue waits : Bool) (q p r : List ℕ) → (in_queue ≡ false → p ≡ r) → cond in_queue q (cond waits p q) ≡ cond in_queue q (cond waits r q)
 either true waits q p r new = refl
@@ -20,18 +23,17 @@ module _ (s : State) (i : ℕ) where
   gathered_append q (j ∷ xs) ys = gathered_append (noted s i q j) xs ys
 
   -- One more site after those gathered so far.
-  gathered_more : (q xs : List ℕ) (a k j : ℕ) → a + k ≡ j → gathered s i q (xs ++ range a (k + 1)) ≡ noted s i (gathered s i q (xs ++ range a k)) j
-  gathered_more q xs a k j e =
-      ap (λ ys. gathered s i q (xs ++ ys)) (range_more a k ∙ ap (λ x. range a k ++ (x ∷ [])) e)
-      ∙ ap (gathered s i q) (sym (append_assoc xs (range a k) (j ∷ [])))
-      ∙ gathered_append q (xs ++ range a k) (j ∷ [])
+  pub gathered_more : (q xs : List ℕ) (j : ℕ) → gathered s i q (xs ++ (j ∷ [])) ≡ noted s i (gathered s i q xs) j
+  gathered_more q xs j = gathered_append q xs (j ∷ [])
 
-  -- The step of a loop over a range, after what was gathered before it.
-  pub gathered_next : (q now next xs : List ℕ) (a k k' j : ℕ) → k' ≡ k + 1 → a + k ≡ j → now ≡ gathered s i q (xs ++ range a k) → next ≡ noted s i now j → next ≡ gathered s i q (xs ++ range a k')
-  gathered_next q now next xs a k k' j longer here so_far more =
-      more
-      ∙ ap (λ ys. noted s i ys j) so_far
-      ∙ sym (ap (λ n. gathered s i q (xs ++ range a n)) longer ∙ gathered_more q xs a k j here)
+  noted_site : (n : ℕ) (q : List ℕ) (j : ℕ) → AllBelow q n → j < n → AllBelow (noted s i q j) n
+  noted_site n q j old near = λ x h. grind (arith, nat_tests, times_append q (j ∷ []) x, old x)
+
+  -- What is gathered are sites that were in the queue before or are gone through.
+  pub gathered_site : (n : ℕ) (q js : List ℕ) → AllBelow q n → AllBelow js n → AllBelow (gathered s i q js) n
+  gathered_site n q [] old new = old
+  gathered_site n q (j ∷ js) old new =
+      gathered_site n (noted s i q j) js (noted_site n q j old (new j (grind (arith, nat_tests)))) (λ x p. new x (omega arith))
 
   module _ (few : s.sites ≤ 16) where
     -- A site that is not queued finds room.
@@ -52,3 +54,12 @@ module _ (s : State) (i : ℕ) where
 pub gathered_sound : (s : State) (i : ℕ) → Sound s → i < s.sites → gathered s i s.queue (order i s.sites) ≡ searched s i s.queue (order i s.sites)
 gathered_sound s i sound h =
     gathered_all s i sound.most s.queue (order i s.sites) sound.queue_site sound.once (visits_site (order i s.sites) s.sites i (order_visits i s.sites h))
+
+-- The token's place and the queue that is left, whose sites were below 16 before.
+pub passed_place : (t : Token) (q : List ℕ) → place t < 16 → AllBelow q 16 → place (token_after q t) < 16
+passed_place t [] at near = at
+passed_place t (j ∷ q) at near = near j (grind (arith, nat_tests))
+
+pub rest_site : (q : List ℕ) → AllBelow q 16 → AllBelow (rest q) 16
+rest_site [] near = near
+rest_site (j ∷ q) near = λ x h. near x (omega arith)

@@ -4,4 +4,3 @@ pub mod Links
 pub mod Seeking
 pub mod Sending
 pub mod States
-pub mod Stored

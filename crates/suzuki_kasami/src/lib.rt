@@ -6,7 +6,6 @@ pub mod calls;
 mod freeing;
 mod making;
 mod questions;
-mod queue;
-mod requests;
 pub mod state;
 mod stepping;
+mod under_way;

@@ -4,9 +4,9 @@ ghost use Rattle.suzuki_rules.specs.Invariant.{Sound};
 ghost use Rattle.suzuki_rules.specs.Rules.{fresh, made};
 ghost use Rattle.suzuki_kasami.specs.Reading.{state_of};
 
-use crate::queue::Queue;
 use crate::state::SuzukiKasami;
-use manager::status::Status;
+use arrayvec::ArrayVec;
+use manager::island::Island;
 use suzuki_rules::Token;
 
 impl SuzukiKasami {
@@ -24,17 +24,13 @@ impl SuzukiKasami {
         requires { (2 ≤ sites) × ((sites ≤ 16) × (site < sites)) }
         ensures { state_of result ≡ fresh sites site }
     {
-        let mut status = [Status::Idle; 16];
-        status[site] = Status::Holding;
         SuzukiKasami {
-            sites,
-            status,
+            island: Island::parked(sites, site),
             known: [[0; 16]; 16],
             requests: [[false; 16]; 16],
             token: Token::At(site),
             served: [0; 16],
-            queue: Queue::new(),
-            age: 0,
+            queue: ArrayVec::new(),
         }
     }
 }

@@ -1,15 +1,16 @@
 // What a manager tells of itself.
-ghost use Rattle.std.specs.Prelude.{◌≡◌, ◌<◌};
-ghost use Rattle.manager.specs.Meaning.{is_idle, is_holding};
+ghost use Rattle.std.specs.Prelude.{◌≡◌};
 ghost use Rattle.suzuki_rules.specs.Reading.{meaning_of, is_called, wanted};
 ghost use Rattle.suzuki_rules.specs.State.{has_token, wants};
 ghost use Rattle.suzuki_kasami.specs.Reading.{state_of};
 
 use crate::state::SuzukiKasami;
+use counting::stored::cell_or;
+use counting::table::Table;
 use suzuki_rules::Token;
 
 impl SuzukiKasami {
-    // Is the token at the site?
+    // Is the token at the site? A `match`: of `==` the clause speaks of coded values, and no proof closed.
     pub(crate) fn has_token(&self, site: usize) -> bool
         ensures { result ≡ has_token (state_of self.now) site }
     {
@@ -19,47 +20,39 @@ impl SuzukiKasami {
         }
     }
 
-    pub(crate) fn is_idle(&self, site: usize) -> bool
-        requires { site < 16 }
-        ensures { result ≡ is_idle ((state_of self.now).status site) }
+    // The largest request number of the other site that the site knows.
+    fn known_at(&self, site: usize, other: usize) -> u64
+        ensures tells_the_number { result ≡ (state_of self.now).known site other }
     {
-        self.status[site].is_idle()
+        cell_or(&self.known, site, other, 0)
     }
 
-    pub(crate) fn is_holding(&self, site: usize) -> bool
-        requires { site < 16 }
-        ensures { result ≡ is_holding ((state_of self.now).status site) }
+    // The last request number of the site that was served.
+    fn served_at(&self, site: usize) -> u64
+        ensures tells_the_number { result ≡ (state_of self.now).served site }
     {
-        self.status[site].is_holding()
+        self.served.get(site).copied().unwrap_or(0)
     }
 
     // As far as one site knows, does the other wait?
     pub(crate) fn wants(&self, site: usize, other: usize) -> bool
-        requires { (site < 16) × (other < 16) }
         ensures { result ≡ wants (state_of self.now) site other }
     {
-        let known = self.known[site][other];
-        known > 0 && known - 1 == self.served[other]
+        self.known_at(site, other).checked_sub(1) == Some(self.served_at(other))
     }
 
     // Does the site know another to wait?
     fn wanted(&self, site: usize) -> bool
-        requires { site < 16 }
-        ensures { result ≡ wanted (state_of self.now) site self.now.sites }
+        ensures { result ≡ wanted (state_of self.now) site self.now.island.sites }
     {
-        let mut found = false;
-        for other in 0..self.sites {
-            found = found || (self.wants(site, other) && other != site);
-        }
-        found
+        (0..self.island.sites).any(|other| self.wants(site, other) && other != site)
     }
 
     // Does the site hold while somebody is known to want the resource?
     pub(crate) fn is_called(&self, site: usize) -> bool
-        requires { site < 16 }
         ensures { result ≡ is_called (state_of self.now) site }
     {
-        self.is_holding(site) && (!self.queue.is_empty() || self.wanted(site))
+        self.island.status_of(site).is_holding() && (!self.queue.is_empty() || self.wanted(site))
     }
 
     // How many things are under way: the REQUESTs, and the token if it is.
@@ -67,8 +60,8 @@ impl SuzukiKasami {
         ensures { result ≡ (meaning_of (state_of self.now)).underway }
     {
         match self.token {
-            Token::At(_) => self.sent(),
-            Token::Sent(_) => self.sent() + 1,
+            Token::At(_) => self.total(),
+            Token::Sent(_) => self.total() + 1,
         }
     }
 }

@@ -2,6 +2,7 @@
 use Rattle.std.proofs.Common.{◌≡◌, ℕ, ◌+◌, ◌<◌, ◌≤◌, true, false, not, ◌&&◌, ◌||◌, eqb, ◌⊎◌, List, [], ◌∷◌, Some, None, Option, refl, ap, ◌∙◌, inl, inr, arith}
 use Rattle.std.proofs.lemmas.Bool.{and_parts, and_from, or_cases, or_right, not-true, cases_eq}
 use Rattle.std.proofs.lemmas.Bool.Decides.{nat_tests}
+use Rattle.counting.specs.Cells.{Small}
 use Rattle.counting.specs.Sums.{times}
 use Rattle.counting.proofs.Tests.{any_some, any_from}
 use Rattle.manager.specs.Meaning.{is_holding}
@@ -71,6 +72,10 @@ queued_some (j ∷ q) h = (j, grind (arith, nat_tests))
 
 pub requests_most : (s : State) (a b : ℕ) → requests s a b ≤ 1
 requests_most s a b = grind arith
+
+-- So the table of the REQUESTs is small.
+pub requests_small : (s : State) → s.sites ≤ 16 → Small (requests s) s.sites
+requests_small s few = record { few_rows = few; few_in_a_cell = λ a b. omega (arith, requests_most s a b) }
 
 pub requests_none : (s : State) (a b : ℕ) → requests s a b ≡ 0 → s.link a b ≡ None
 requests_none s a b h = grind arith

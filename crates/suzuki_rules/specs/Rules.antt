@@ -1,5 +1,6 @@
 -- What each call does, by the published rules. Assumes nothing.
-use Rattle.std.specs.Prelude.{◌≡◌, ℕ, zero, suc, ◌+◌, ◌-◌, ◌<◌, max, cond, not, ◌&&◌, List, [], ◌∷◌, ◌++◌, Some, None, Option, ◌==◌, nat_lt}
+use Rattle.std.specs.Prelude.{◌≡◌, ℕ, ◌+◌, ◌-◌, ◌<◌, max, cond, not, ◌&&◌, List, [], ◌∷◌, ◌++◌, Some, None, Option, ◌==◌, nat_lt}
+use Rattle.std.specs.List.{range_with_len}
 use Rattle.counting.specs.Sizes.{fitted}
 use Rattle.counting.specs.Sums.{upd}
 use Rattle.counting.specs.Tables.{before, total, upd2}
@@ -58,14 +59,9 @@ requested s i = record {
 abbrev pub asked : State → ℕ → State
 asked s i = cond (has_token s i) (held s i) (requested s i)
 
--- The numbers from a on, k of them.
-abbrev pub range : ℕ → ℕ → List ℕ
-range a zero = []
-range a (suc k) = a ∷ range (a + 1) k
-
 -- The order in which a freeing site goes through the others: those after it, then those before it.
 abbrev pub order : (i n : ℕ) → List ℕ
-order i n = range (i + 1) (n - (i + 1)) ++ range 0 i
+order i n = range_with_len (i + 1) (n - (i + 1)) ++ range_with_len 0 i
 
 -- Site i queues j unless it is queued already or is not known to wait.
 abbrev pub enqueued : State → ℕ → List ℕ → ℕ → List ℕ
