@@ -1,6 +1,7 @@
 pub mod Answering
+pub mod Clocks
 pub mod Delivery
-pub mod Finding
+pub mod Made
 pub mod Replying
 pub mod Rows
 pub mod States

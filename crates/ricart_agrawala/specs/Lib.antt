@@ -1,4 +1,3 @@
 pub mod Answered
-pub mod Found
 pub mod Reading
 pub mod Receiving

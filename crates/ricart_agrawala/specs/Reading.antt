@@ -3,14 +3,19 @@ use Rattle.std.specs.Prelude.{[], slice_index_or}
 use Rattle.manager.specs.declared.status.Status.TheVariants.{Idle}
 use Rattle.ricart_rules.specs.State.{State}
 use Rattle.ricart_rules.specs.declared.Stage.TheVariants.{Unasked}
+use Rattle.ricart_agrawala.specs.declared.state.Clock.{Clock}
 use Rattle.ricart_agrawala.specs.declared.state.RicartAgrawala.{RicartAgrawala}
+
+-- What a site knows when the manager is parked.
+abbrev pub first_clock : Clock
+first_clock = record { highest = 1; number = 1 }
 
 abbrev pub state_of : RicartAgrawala → State
 state_of m = record {
-  sites = m.sites;
-  status = λ i. slice_index_or m.status i Idle;
-  highest = λ i. slice_index_or m.highest i 1;
-  number = λ i. slice_index_or m.number i 1;
+  sites = m.island.sites;
+  status = λ i. slice_index_or m.island.status i Idle;
+  highest = λ i. (slice_index_or m.clocks i first_clock).highest;
+  number = λ i. (slice_index_or m.clocks i first_clock).number;
   stage = λ i j. slice_index_or (slice_index_or m.stages i []) j Unasked;
-  age = m.age;
+  age = m.island.age;
 }

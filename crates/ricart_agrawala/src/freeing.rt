@@ -24,13 +24,13 @@ fn answered(stage: Stage) -> Stage
 impl RicartAgrawala {
     // Sends a REPLY to each site that the site deferred, and ends its own request.
     pub(crate) fn release(&mut self, site: usize)
-        requires { (site < 16) × (self.old.age < limit) }
+        requires { (site < 16) × (self.old.island.age < limit) }
         ensures { state_of self.new ≡ freed (state_of self.old) site }
     {
         self.answer_deferred(site);
         self.stages[site] = [Stage::Unasked; 16];
-        self.status[site] = Status::Idle;
-        self.age += 1;
+        self.island.status[site] = Status::Idle;
+        self.island.age += 1;
     }
 
     // Sends the REPLYs that the site owes. Past the last site nobody is deferred, so that all 16 rows may be gone through.
@@ -38,8 +38,8 @@ impl RicartAgrawala {
         requires { site < 16 }
         ensures { state_of self.new ≡ answered_below (state_of self.old) site 16 }
     {
-        for other in 0..16 {
-            self.stages[other][site] = answered(self.stages[other][site]);
+        for row in &mut self.stages {
+            row[site] = answered(row[site]);
         }
     }
 }

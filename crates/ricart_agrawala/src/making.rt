@@ -4,9 +4,8 @@ ghost use Rattle.ricart_rules.specs.Invariant.{Sound};
 ghost use Rattle.ricart_rules.specs.Rules.{fresh, made};
 ghost use Rattle.ricart_agrawala.specs.Reading.{state_of};
 
-use crate::messages::with_others;
-use crate::state::RicartAgrawala;
-use manager::status::Status;
+use crate::state::{Clock, RicartAgrawala};
+use manager::island::Island;
 use ricart_rules::Stage;
 
 impl RicartAgrawala {
@@ -24,17 +23,13 @@ impl RicartAgrawala {
         requires { (2 ≤ sites) × ((sites ≤ 16) × (site < sites)) }
         ensures { state_of result ≡ fresh sites site }
     {
-        let mut status = [Status::Idle; 16];
-        status[site] = Status::Holding;
+        let island = Island::parked(sites, site);
         let mut stages = [[Stage::Unasked; 16]; 16];
-        stages[site] = with_others(stages[site], sites, site, Stage::Received);
+        stages[site] = island.with_others(stages[site], site, Stage::Received);
         RicartAgrawala {
-            sites,
-            status,
-            highest: [1; 16],
-            number: [1; 16],
+            island,
+            clocks: [Clock::FIRST; 16],
             stages,
-            age: 0,
         }
     }
 }

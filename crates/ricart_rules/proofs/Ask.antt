@@ -1,5 +1,5 @@
 -- An ask at an idle site keeps a state sound and does what an ask has to do.
-use Rattle.std.proofs.Common.{◌≡◌, ℕ, ◌+◌, ◌-◌, ◌<◌, ◌≤◌, true, refl, ap, ◌∙◌, inl, inr, arith}
+use Rattle.std.proofs.Common.{◌≡◌, ℕ, ◌+◌, ◌-◌, ◌<◌, ◌≤◌, true, refl, ap, inl, inr, arith}
 use Rattle.std.proofs.lemmas.Bool.{cases_eq, or_right}
 use Rattle.std.proofs.lemmas.Bool.Decides.{nat_tests}
 use Rattle.counting.specs.Tables.{total, row}
@@ -11,7 +11,7 @@ use Rattle.ricart_rules.specs.Invariant.{Sound}
 use Rattle.ricart_rules.specs.Reading.{meaning_of, is_barred}
 use Rattle.ricart_rules.specs.Rules.{asked, requests, replies}
 use Rattle.ricart_rules.specs.State.{State, earlier, is_deferred, answered, unanswered, reached, lacks}
-use Rattle.ricart_rules.specs.declared.Stage.TheVariants.{Requested, Deferred}
+use Rattle.ricart_rules.specs.declared.Stage.TheVariants.{Deferred}
 use Rattle.ricart_rules.proofs.Facts.{lacks_some, lacks_from, called_holds, called_kept, barred_free, barred_some, barred_from, requests_most}
 
 module _ (s : State) (i : ℕ) (v : Sound s) (within : i < s.sites) (idle : s.status i ≡ Idle) where
@@ -46,14 +46,7 @@ module _ (s : State) (i : ℕ) (v : Sound s) (within : i < s.sites) (idle : s.st
   asked_earlier a b ha hb ne p q = grind (arith, nat_tests, v.answered_earlier a b ha hb, v.heard a b ha hb)
 
   asked_first : (a b : ℕ) → a < s.sites → b < s.sites → (a ≡ i → ⊥) → answered (s.stage a b) ≡ true → ((asked s i).status b ≡ Idle → ⊥) → unanswered ((asked s i).stage b a) ≡ true
-  asked_first a b ha hb ne p q = elim (cases_eq b i) [
-    | inl e ↦
-        let sent : (asked s i).stage b a ≡ Requested = grind (arith, nat_tests) in
-        ap unanswered sent
-    | inr other ↦
-        let kept : (asked s i).stage b a ≡ s.stage b a = grind (arith, nat_tests) in
-        ap unanswered kept ∙ v.answered_first a b ha hb p (λ k. q (upd_other s.status i Waiting b other ∙ k))
-  ]
+  asked_first a b ha hb ne p q = grind (arith, nat_tests, v.answered_first a b ha hb p)
 
   asked_deferred : (a b : ℕ) → a < s.sites → b < s.sites → (asked s i).stage a b ≡ Deferred → (a ≡ i → ⊥) × (b ≡ i → ⊥) × (s.stage a b ≡ Deferred)
   asked_deferred a b ha hb p =

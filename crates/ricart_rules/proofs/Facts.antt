@@ -1,7 +1,7 @@
 -- What a state's tests say of it: who lacks a REPLY, who is called, who is barred, whose stamp is earlier, and what is
 -- under way.
-use Rattle.std.proofs.Common.{◌≡◌, ℕ, ◌+◌, ◌<◌, ◌≤◌, true, false, not, ◌&&◌, eqb, sym, refl, ap, inl, inr, arith}
-use Rattle.std.proofs.lemmas.Bool.{and_parts, and_from, cases_Bool, not-true, not_from_false}
+use Rattle.std.proofs.Common.{◌≡◌, ℕ, ◌+◌, ◌<◌, ◌≤◌, true, false, not, ◌&&◌, eqb, sym, ap, arith}
+use Rattle.std.proofs.lemmas.Bool.{and_parts, and_from, not-true, not_from_false}
 use Rattle.std.proofs.lemmas.Bool.Decides.{nat_tests}
 use Rattle.counting.specs.Tables.{total}
 use Rattle.counting.specs.Tests.{any}
@@ -10,8 +10,7 @@ use Rattle.counting.proofs.Tables.{total_add}
 use Rattle.counting.proofs.Tests.{any_some, any_from, any_none, none_any}
 use Rattle.manager.specs.Meaning.{is_holding, is_waiting}
 use Rattle.manager.proofs.Statuses.{holds_of}
-use Rattle.manager.specs.declared.status.Status.{Status}
-use Rattle.manager.specs.declared.status.Status.TheVariants.{Idle, Waiting, Holding}
+use Rattle.manager.specs.declared.status.Status.TheVariants.{Waiting, Holding}
 use Rattle.ricart_rules.specs.Invariant.{Sound}
 use Rattle.ricart_rules.specs.Reading.{is_called, is_held, yields_to, is_barred}
 use Rattle.ricart_rules.specs.Rules.{requests, replies, messages}
@@ -40,15 +39,15 @@ module _ (n i : ℕ) (stages : ℕ → Stage) where
 -- Who is called.
 module _ (s : State) (i : ℕ) where
   pub called_holds : is_called s i ≡ true → s.status i ≡ Holding
-  called_holds c = holds_of (s.status i) (and_parts (is_holding (s.status i)) (any (λ j. is_deferred (s.stage j i)) s.sites) c).0
+  called_holds c = grind arith
 
   pub called_some : is_called s i ≡ true → (j : ℕ) × (j < s.sites) × (s.stage j i ≡ Deferred)
   called_some c =
-      let w = any_some (λ j. is_deferred (s.stage j i)) s.sites (and_parts (is_holding (s.status i)) (any (λ j. is_deferred (s.stage j i)) s.sites) c).1 in
+      let w = any_some (λ j. is_deferred (s.stage j i)) s.sites (and_parts _ _ c).1 in
       (w.0, w.1, deferred_of (s.stage w.0 i) w.2)
 
   pub called_from : s.status i ≡ Holding → (j : ℕ) → j < s.sites → s.stage j i ≡ Deferred → is_called s i ≡ true
-  called_from h j l d = and_from (is_holding (s.status i)) (any (λ j. is_deferred (s.stage j i)) s.sites) (ap is_holding h) (any_from (λ j. is_deferred (s.stage j i)) s.sites j l (ap is_deferred d))
+  called_from h j l d = and_from _ _ (ap is_holding h) (any_from (λ j. is_deferred (s.stage j i)) s.sites j l (ap is_deferred d))
 
 -- Called lasts where a holder holds on, and whom it deferred it still does.
 pub called_kept : (s s' : State) (i : ℕ) → s'.sites ≡ s.sites → s'.status i ≡ Holding → ((j : ℕ) → j < s.sites → s.stage j i ≡ Deferred → s'.stage j i ≡ Deferred) → is_called s i ≡ true → is_called s' i ≡ true
@@ -59,21 +58,21 @@ called_kept s s' i n h kept c =
 -- Who is barred.
 module _ (s : State) (i : ℕ) where
   pub barred_free : is_barred s i ≡ true → (j : ℕ) → j < s.sites → s.status j ≡ Holding → ⊥
-  barred_free b j l h = none_any (λ j. is_holding (s.status j)) s.sites j (not-true (is_held s) (and_parts (not (is_held s)) (any (yields_to s i) s.sites) b).0) l (ap is_holding h)
+  barred_free b j l h = none_any (λ j. is_holding (s.status j)) s.sites j (not-true _ (and_parts _ _ b).0) l (ap is_holding h)
 
   pub barred_some : is_barred s i ≡ true → (j : ℕ) × (j < s.sites) × (s.status j ≡ Waiting) × (answered (s.stage j i) ≡ true)
   barred_some b =
-      let w = any_some (yields_to s i) s.sites (and_parts (not (is_held s)) (any (yields_to s i) s.sites) b).1 in
-      (w.0, w.1, grind (arith, w.2), (and_parts (is_waiting (s.status w.0)) (answered (s.stage w.0 i)) w.2).1)
+      let w = any_some (yields_to s i) s.sites (and_parts (not (is_held s)) _ b).1 in
+      (w.0, w.1, grind (arith, w.2), (and_parts _ _ w.2).1)
 
   pub barred_from : ((j : ℕ) → j < s.sites → s.status j ≡ Holding → ⊥) → (j : ℕ) → j < s.sites → s.status j ≡ Waiting → answered (s.stage j i) ≡ true → is_barred s i ≡ true
   barred_from free j l w a =
-      let none : is_held s ≡ false = any_none (λ j. is_holding (s.status j)) s.sites (λ j l h. free j l (holds_of (s.status j) h)) in
-      let some : any (yields_to s i) s.sites ≡ true = any_from (yields_to s i) s.sites j l (and_from (is_waiting (s.status j)) (answered (s.stage j i)) (ap is_waiting w) a) in
-      and_from (not (is_held s)) (any (yields_to s i) s.sites) (not_from_false (is_held s) none) some
+      let none : is_held s ≡ false = any_none (λ j. is_holding (s.status j)) s.sites (λ j l h. free j l (holds_of _ h)) in
+      let some : any (yields_to s i) s.sites ≡ true = any_from (yields_to s i) s.sites j l (and_from _ _ (ap is_waiting w) a) in
+      and_from _ _ (not_from_false _ none) some
 
 pub held_unbarred : (s : State) (i j : ℕ) → j < s.sites → s.status j ≡ Holding → is_barred s i ≡ false
-held_unbarred s i j l h = elim (cases_Bool (is_barred s i)) [ inl b ↦ absurd (barred_free s i b j l h) | inr b ↦ b ]
+held_unbarred s i j l h = grind (arith, barred_free s i)
 
 -- Stamps are in a strict order, and no two sites have the same.
 module _ (s : State) where
@@ -88,12 +87,7 @@ module _ (s : State) where
 
 -- A site whose request is neither over nor answered by j waits.
 pub unfinished_waits : (s : State) (i j : ℕ) → Sound s → i < s.sites → j < s.sites → (i ≡ j → ⊥) → (s.stage i j ≡ Unasked → ⊥) → (s.stage i j ≡ Received → ⊥) → s.status i ≡ Waiting
-unfinished_waits s i j v hi hj ne u r = go (s.status i) refl
-  where
-    go : (x : Status) → s.status i ≡ x → s.status i ≡ Waiting
-    go Idle e = absurd (u (v.idle_unasked i j hi hj e))
-    go Waiting e = e
-    go Holding e = absurd (r (v.holder_has i j hi hj ne e))
+unfinished_waits s i j v hi hj ne u r = grind (arith, v.idle_unasked i j hi hj, v.holder_has i j hi hj ne)
 
 pub exclusive : (s : State) → Sound s → (i j : ℕ) → i < s.sites → j < s.sites → s.status i ≡ Holding → s.status j ≡ Holding → (i ≡ j → ⊥) → ⊥
 exclusive s v i j hi hj p q ne =
@@ -104,6 +98,9 @@ requests_most s a b = one_if_most (is_requested (s.stage a b))
 
 pub replies_most : (s : State) (a b : ℕ) → replies s a b ≤ 1
 replies_most s a b = one_if_most (is_replied (s.stage b a))
+
+pub messages_most : (s : State) (a b : ℕ) → messages s a b ≤ 2
+messages_most s a b = omega (arith, requests_most s a b, replies_most s a b)
 
 pub messages_total : (s : State) (n : ℕ) → total (messages s) n ≡ total (requests s) n + total (replies s) n
 messages_total s n = total_add (requests s) (replies s) n

@@ -1,5 +1,5 @@
 -- A free at a holder keeps a state sound and does what a free has to do.
-use Rattle.std.proofs.Common.{◌≡◌, ℕ, ◌+◌, ◌-◌, ◌<◌, ◌≤◌, true, refl, ap, ◌∙◌, arith}
+use Rattle.std.proofs.Common.{◌≡◌, ℕ, ◌+◌, ◌-◌, ◌<◌, ◌≤◌, true, refl, arith}
 use Rattle.std.proofs.lemmas.Bool.Decides.{nat_tests}
 use Rattle.counting.specs.Tables.{total, row}
 use Rattle.counting.proofs.Sums.{upd_same, upd_other, sum_but_one}
@@ -13,16 +13,8 @@ use Rattle.ricart_rules.specs.State.{State, answered, unanswered, lacks}
 use Rattle.ricart_rules.proofs.Facts.{lacks_some, lacks_from, called_some, barred_from, exclusive, replies_most}
 
 module _ (s : State) (i : ℕ) (v : Sound s) (within : i < s.sites) (holds : s.status i ≡ Holding) where
-  -- Between other sites nothing changes.
-  freed_kept : (a b : ℕ) → (a ≡ i → ⊥) → (b ≡ i → ⊥) → (freed s i).stage a b ≡ s.stage a b
-  freed_kept a b na nb = grind (arith, nat_tests)
-
   freed_first : (a b : ℕ) → a < s.sites → b < s.sites → answered ((freed s i).stage a b) ≡ true → ((freed s i).status b ≡ Idle → ⊥) → unanswered ((freed s i).stage b a) ≡ true
-  freed_first a b ha hb p q =
-      let na : a ≡ i → ⊥ = λ e. grind (arith, nat_tests) in
-      let nb : b ≡ i → ⊥ = λ e. q (grind (arith, nat_tests)) in
-      let old : answered (s.stage a b) ≡ true = rw (freed_kept a b na nb) at p in
-      ap unanswered (freed_kept b a nb na) ∙ v.answered_first a b ha hb old (λ k. q (upd_other s.status i Idle b nb ∙ k))
+  freed_first a b ha hb p q = grind (arith, nat_tests, v.answered_first a b ha hb)
 
   freed_lacks : (a : ℕ) → a < s.sites → (freed s i).status a ≡ Waiting → lacks s.sites a ((freed s i).stage a) ≡ true
   freed_lacks a ha p =

@@ -1,6 +1,5 @@
 -- The meaning of every sound state is lawful, and that of every state of a fit size is bounded.
-use Rattle.std.proofs.Common.{◌≡◌, ℕ, ◌<◌, ◌≤◌, true, ap, inl, inr, mul-le-mul_right, arith}
-use Rattle.std.proofs.lemmas.Bool.{cases_eq}
+use Rattle.std.proofs.Common.{◌≡◌, ℕ, ◌<◌, ◌≤◌, true, ap, mul-le-mul_right, arith}
 use Rattle.counting.specs.Tables.{total}
 use Rattle.counting.proofs.Tables.{total_none, total_most}
 use Rattle.counting.proofs.Tests.{First, first_exists}
@@ -34,14 +33,11 @@ module _ (s : State) (v : Sound s) where
       deferred = quiet_deferred none m h.0 f.within h.1 h.2 waits h.3
 
       holds : s.status h.0 ≡ Holding
-      holds = elim (v.deferred_by m h.0 f.within h.1 deferred) [
-        | inl p ↦ p
-        | inr p ↦ absurd (f.least h.0 h.1 (ap is_waiting p.0) p.1)
-      ]
+      holds = grind (arith, v.deferred_by m h.0 f.within h.1 deferred, f.least h.0 h.1)
 
   pub lawful : Lawful (meaning_of s)
   lawful = record {
-    exclusive = λ i j hi hj p q. elim (cases_eq i j) [ inl e ↦ e | inr ne ↦ absurd (exclusive s v i j hi hj p q ne) ];
+    exclusive = λ i j hi hj p q. grind (arith, exclusive s v i j hi hj p q);
     served = λ i hi w none. let m = first_exists (λ j. is_waiting (s.status j)) (earlier s) (earlier_irreflexive s) (earlier_transitive s) s.sites i hi (ap is_waiting w) in earliest_calls none m.0 m.1;
     called_holds = λ i hi. called_holds s i;
     called_wanted = λ i hi c. let w = called_some s i c in (w.0, w.1, v.deferred_waits w.0 i w.1 hi w.2);

@@ -1,11 +1,10 @@
 -- The coming of a REPLY keeps a state sound and does what a step has to do.
-use Rattle.std.proofs.Common.{◌≡◌, ℕ, ◌+◌, ◌<◌, Bool, true, false, cond, not, ◌⊎◌, Some, None, sym, refl, ap, ◌∙◌, inl, inr, arith}
-use Rattle.std.proofs.lemmas.Bool.{cases_Bool, cases_eq, and_parts, not-true}
+use Rattle.std.proofs.Common.{◌≡◌, ℕ, ◌+◌, ◌<◌, Bool, true, false, cond, ◌⊎◌, Some, None, sym, refl, ◌∙◌, inl, inr, arith}
+use Rattle.std.proofs.lemmas.Bool.{cases_eq, and_parts, not-true}
 use Rattle.std.proofs.lemmas.Bool.Decides.{nat_tests}
 use Rattle.counting.specs.Tables.{total}
 use Rattle.counting.proofs.Tables.{total_ext, total_change}
 use Rattle.manager.specs.Effects.{Stepped, Granted}
-use Rattle.manager.specs.Meaning.{is_waiting}
 use Rattle.manager.specs.declared.status.Status.TheVariants.{Idle, Waiting, Holding}
 use Rattle.ricart_rules.specs.Invariant.{Sound}
 use Rattle.ricart_rules.specs.Reading.{meaning_of, is_barred}
@@ -23,7 +22,7 @@ module _ (s : State) (v : Sound s) (a b : ℕ) (ha : a < s.sites) (hb : b < s.si
 
   -- The last REPLY leaves none to come.
   completes_has : completes s a b ≡ true → (j : ℕ) → j < s.sites → (j ≡ b → ⊥) → (replied s a b).stage b j ≡ Received
-  completes_has c = lacks_none s.sites b ((replied s a b).stage b) (not-true (lacks s.sites b ((replied s a b).stage b)) (and_parts (is_waiting (s.status b)) (not (lacks s.sites b ((replied s a b).stage b))) c).1)
+  completes_has c = lacks_none s.sites b ((replied s a b).stage b) (not-true _ (and_parts _ _ c).1)
 
   completes_lacks : completes s a b ≡ false → lacks s.sites b ((replied s a b).stage b) ≡ true
   completes_lacks c = grind (arith, receiver_waits)
@@ -70,10 +69,7 @@ module _ (s : State) (v : Sound s) (a b : ℕ) (ha : a < s.sites) (hb : b < s.si
     answered_earlier = λ i j hi hj p q. v.answered_earlier i j hi hj (sym (replied_answered i j) ∙ p) (λ e. q (replied_idle j e));
     answered_first = λ i j hi hj p q. replied_unanswered j i ∙ v.answered_first i j hi hj (sym (replied_answered i j) ∙ p) (λ e. q (replied_idle j e));
     deferred_waits = λ i j hi hj p. grind (arith, nat_tests, v.deferred_waits i j hi hj (replied_deferred i j p), completes_has, v.no_loop b hb);
-    deferred_by = λ i j hi hj p. elim (v.deferred_by i j hi hj (replied_deferred i j p)) [
-      | inl h ↦ inl (replied_holds j h)
-      | inr w ↦ elim (replied_waits j w.0) [ inl h ↦ inl h | inr k ↦ inr (k, w.1) ]
-    ];
+    deferred_by = λ i j hi hj p. grind (arith, v.deferred_by i j hi hj (replied_deferred i j p), replied_holds j, replied_waits j);
     heard = λ i j hi hj p. v.heard i j hi hj (sym (replied_reached i j) ∙ p);
     holder_has = λ i j hi hj ne p. grind (arith, nat_tests, v.holder_has i j hi hj ne, completes_has, receiver_waits);
     waiting_lacks = replied_lacks;
@@ -108,13 +104,7 @@ module _ (s : State) (v : Sound s) (a b : ℕ) (ha : a < s.sites) (hb : b < s.si
 
   -- So where a site is barred and no other comes to hold, none does.
   barred_not_last : (j : ℕ) → is_barred s j ≡ true → ((k : ℕ) → k < s.sites → (k ≡ j → ⊥) → (replied s a b).status k ≡ Holding → ⊥) → completes s a b ≡ false
-  barred_not_last j p free = elim (cases_Bool (completes s a b)) [
-    | inl c ↦ elim (cases_eq b j) [
-      | inl e ↦ absurd (barred_incomplete (ap (is_barred s) e ∙ p) c)
-      | inr ne ↦ absurd (free b hb ne (grind (arith, nat_tests)))
-    ]
-    | inr c ↦ c
-  ]
+  barred_not_last j p free = grind (arith, nat_tests, barred_incomplete, free b hb)
 
   replied_barred : (j : ℕ) → is_barred s j ≡ true → completes s a b ≡ false → is_barred (replied s a b) j ≡ true
   replied_barred j p c =

@@ -1,6 +1,5 @@
 -- The coming of a REQUEST keeps a state sound and does what a step has to do.
 use Rattle.std.proofs.Common.{◌≡◌, ℕ, ◌+◌, ◌<◌, ◌≤◌, true, false, ◌⊎◌, None, refl, ap, ◌∙◌, inl, inr, arith}
-use Rattle.std.proofs.lemmas.Bool.{both_ways, cases_Bool}
 use Rattle.std.proofs.lemmas.Bool.Decides.{nat_tests}
 use Rattle.counting.specs.Tables.{total}
 use Rattle.counting.proofs.Tables.{total_change}
@@ -40,17 +39,13 @@ module _ (s : State) (v : Sound s) (a b : ℕ) (ha : a < s.sites) (hb : b < s.si
   answered_defers : answered (s.stage b a) ≡ true → defers s b a ≡ true
   answered_defers p =
       let first : earlier s b a ≡ true = v.answered_earlier b a hb ha p (λ e. grind (arith, sender_waits)) in
-      let busy : s.status b ≡ Idle → ⊥ = λ e. grind (arith, v.idle_unasked b a hb ha e) in
-      elim (cases_Bool (defers s b a)) [ inl d ↦ d | inr d ↦ absurd (both_ways (earlier s b a) (answers_not_earlier d busy) first) ]
+      grind (arith, v.idle_unasked b a hb ha)
 
   answers_first : defers s b a ≡ false → (s.status b ≡ Idle → ⊥) → unanswered (s.stage b a) ≡ true
   answers_first d q = grind (arith, v.busy_asked b a hb ha, answered_defers, apart)
 
   received_earlier : (i j : ℕ) → i < s.sites → j < s.sites → answered ((received s a b).stage i j) ≡ true → (s.status j ≡ Idle → ⊥) → earlier s i j ≡ true
-  received_earlier i j hi hj p q = elim (received_answered i j p) [
-    | inl old ↦ v.answered_earlier i j hi hj old q
-    | inr new ↦ rw (new.0, new.1) (answers_earlier new.2 (λ e. q (ap s.status new.1 ∙ e)))
-  ]
+  received_earlier i j hi hj p q = grind (arith, received_answered i j p, v.answered_earlier i j hi hj, answers_earlier)
 
   received_first : (i j : ℕ) → i < s.sites → j < s.sites → answered ((received s a b).stage i j) ≡ true → (s.status j ≡ Idle → ⊥) → unanswered ((received s a b).stage j i) ≡ true
   received_first i j hi hj p q = elim (received_answered i j p) [
@@ -77,7 +72,7 @@ module _ (s : State) (v : Sound s) (a b : ℕ) (ha : a < s.sites) (hb : b < s.si
     answered_earlier = received_earlier;
     answered_first = received_first;
     deferred_waits = λ i j hi hj p. grind (arith, nat_tests, v.deferred_waits i j hi hj, sender_waits);
-    deferred_by = λ i j hi hj p. elim (received_deferred i j p) [ inl old ↦ v.deferred_by i j hi hj old | inr new ↦ rw (new.0, new.1) (defers_holds new.2) ];
+    deferred_by = λ i j hi hj p. grind (arith, received_deferred i j p, v.deferred_by i j hi hj, defers_holds);
     heard = λ i j hi hj p. grind (arith, nat_tests, v.heard i j hi hj);
     holder_has = λ i j hi hj ne p. grind (arith, nat_tests, v.holder_has i j hi hj ne);
     waiting_lacks = received_lacks;

@@ -1,30 +1,33 @@
-use Rattle.std.proofs.Common.{◌≡◌, cond, [], length, get_or, ap, ◌∙◌, arith, rules}
-use Rattle.counting.specs.Tables.{upd2}
-use Rattle.counting.proofs.Arrays.{read_set2}
-use Rattle.ricart_rules.specs.State.{State, is_deferred}
-use Rattle.ricart_rules.specs.declared.Stage.TheVariants.{Unasked, Replied}
+use Rattle.std.proofs.Common.{◌≡◌, [], length, get_or, set, refl, ap, ◌∙◌, arith, length-set}
+use Rattle.counting.proofs.Arrays.{wide_set}
+use Rattle.ricart_agrawala.specs.Answered.{answered_below}
 use Rattle.ricart_agrawala.specs.Reading.{state_of}
-use Rattle.ricart_agrawala.proofs.Answering.{answered_more}
+use Rattle.ricart_agrawala.proofs.Answering.{row_answered}
 use Rattle.ricart_agrawala.proofs.States.{same_state}
 use Rattle.ricart_agrawala.proofs.state.RicartAgrawala.answer_deferred.Goals as goal
 
-pub loop-other-preserved : goal.loop-other-preserved
-loop-other-preserved c =
-    let m = c.loop-other.self in
+pub loop-row-preserved : goal.loop-row-preserved
+loop-row-preserved c =
+    let rows = c.loop-row.row-items in
+    let n = c.loop-row.row-index in
     let i = c.args.site in
-    let n = c.loop-other.other in
-    let e = c.loop-other.invariant in
-    let rows : length m.stages ≡ 16 = search rules in
-    let wide : length (get_or m.stages n []) ≡ 16 = m.wide n (omega arith) in
+    let tall = c.loop-row.invariant.tall in
+    let row : length (get_or rows n []) ≡ 16 = c.loop-row.invariant.wide n (omega arith) in
+    record {
+      tall = simp length-set tall;
+      wide = λ a h. wide_set rows n (set (get_or rows n []) i c.answered.result) 16 (omega arith) (simp length-set row) a (c.loop-row.invariant.wide a h);
+      answered = row_answered (state_of c.args.self.now) rows i n _ (omega arith) (omega arith) c.loop-row.invariant.answered c.answered.ensures;
+    }
+
+pub returns : goal.returns
+returns c =
+    let m = c.args.self.now in
+    let all : c.loop-row.row-index ≡ 16 = omega arith in
     same_state _ _ record {
-      sites = ap (λ (t : State). t.sites) e;
-      status = λ x. ap (λ (t : State). t.status x) e;
-      highest = λ x. ap (λ (t : State). t.highest x) e;
-      number = λ x. ap (λ (t : State). t.number x) e;
-      stage = λ a b.
-          read_set2 m.stages n i c.answered.result Unasked (omega arith) (omega arith) a b
-          ∙ ap (λ v. upd2 (state_of m).stage n i v a b) c.answered.ensures
-          ∙ ap (λ (t : State). upd2 t.stage n i (cond (is_deferred (t.stage n i)) Replied (t.stage n i)) a b) e
-          ∙ answered_more (state_of c.args.self.now) i n a b;
-      age = ap (λ (t : State). t.age) e;
+      sites = refl;
+      status = λ i. refl;
+      highest = λ i. refl;
+      number = λ i. refl;
+      stage = λ a b. c.loop-row.invariant.answered a b ∙ ap (λ n. (answered_below (state_of m) c.args.site n).stage a b) all;
+      age = refl;
     }

@@ -1,11 +1,18 @@
+use Rattle.std.proofs.Common.{sym}
+use Rattle.std.proofs.lemmas.Bool.{ltb-true, ltb-false}
 use Rattle.ricart_agrawala.specs.Reading.{state_of}
 use Rattle.ricart_agrawala.proofs.Delivery.{request_delivered, reply_delivered}
 use Rattle.ricart_agrawala.proofs.state.RicartAgrawala.deliver.Goals as goal
 
-pub returns-in-Request : goal.returns-in-Request
-returns-in-Request c =
-    request_delivered (state_of c.args.self.now) c.args.k c.in-Request.sender c.in-Request.receiver (state_of c.receive_request.new.self) c.in-Request.ensures c.receive_request.ensures
+pub returns-then-is_request : goal.returns-then-is_request
+returns-then-is_request c =
+    let at = c.in_ok-sender in
+    let first = ltb-true _ _ (sym c.if-is_request.ensures.is_true_of_the_first) in
+    request_delivered (state_of c.args.self.now) c.args.k at.field-0 at.ensures.finds_the_thing _ first c.receive_request.ensures
 
-pub returns-in-Reply : goal.returns-in-Reply
-returns-in-Reply c =
-    reply_delivered (state_of c.args.self.now) c.args.k c.in-Reply.sender c.in-Reply.receiver (state_of c.receive_reply.new.self) c.receive_reply.result c.in-Reply.ensures c.receive_reply.ensures.state c.receive_reply.ensures.grant
+pub returns-else-is_request : goal.returns-else-is_request
+returns-else-is_request c =
+    let at = c.in_ok-sender in
+    let later = ltb-false _ _ (sym c.if-is_request.ensures.is_true_of_the_first) in
+    let came = c.receive_reply.ensures in
+    reply_delivered (state_of c.args.self.now) c.args.k at.field-0 at.ensures.finds_the_thing _ _ later came.state came.grant

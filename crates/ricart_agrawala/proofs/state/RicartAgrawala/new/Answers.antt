@@ -5,10 +5,7 @@ use Rattle.ricart_rules.proofs.Park.{made_sound}
 use Rattle.ricart_agrawala.specs.Reading.{state_of}
 use Rattle.ricart_agrawala.proofs.state.RicartAgrawala.new.Goals as goal
 
-pub returns : goal.returns
-returns c =
+pub returns-clause-sound : goal.returns-clause-sound
+returns-clause-sound c =
     let state : state_of c.parked.result ≡ made c.args.sites = search rules in
-    record {
-      state = state;
-      sound = subst Sound (sym state) (made_sound c.args.sites);
-    }
+    subst Sound (sym state) (made_sound c.args.sites)

@@ -1,8 +1,7 @@
-use Rattle.std.proofs.Common.{◌≡◌, ℕ, ◌+◌, ◌<◌, cond, eqb, [], length, get_or, set, replicate, sym, ap, ◌∙◌, arith, rules}
-use lib.ListN.{length-replicate}
+use Rattle.std.proofs.Common.{◌≡◌, ◌+◌, cond, eqb, [], length, get_or, replicate, sym, ap, ◌∙◌, arith, rules}
 use Rattle.std.proofs.lemmas.List.{get_or_past}
 use Rattle.counting.specs.Sums.{upd}
-use Rattle.counting.proofs.Arrays.{read_flat, read_row, read_reset, wide_set}
+use Rattle.counting.proofs.Arrays.{read_flat, read_row, read_reset}
 use Rattle.manager.specs.declared.status.Status.TheVariants.{Idle}
 use Rattle.ricart_rules.specs.State.{State}
 use Rattle.ricart_rules.specs.declared.Stage.TheVariants.{Unasked}
@@ -10,14 +9,6 @@ use Rattle.ricart_agrawala.specs.Reading.{state_of}
 use Rattle.ricart_agrawala.proofs.Answering.{answered_all}
 use Rattle.ricart_agrawala.proofs.States.{same_state}
 use Rattle.ricart_agrawala.proofs.state.RicartAgrawala.release.Goals as goal
-
-pub invariant_of-self : goal.invariant_of-self
-invariant_of-self c =
-    let m = c.answer_deferred.new.self in
-    let rows : length m.stages ≡ 16 = search rules in
-    let wide : (a : ℕ) → a < 16 → length (get_or (set m.stages c.args.site (replicate 16 Unasked)) a []) ≡ 16 = λ a h. wide_set m.stages c.args.site (replicate 16 Unasked) 16 (omega arith) (length-replicate 16 Unasked) a (m.wide a h) in
-    let same : m.age ≡ c.args.self.now.age = ap (λ (t : State). t.age) c.answer_deferred.ensures in
-    record { fewest = m.fewest; most = m.most; wide = wide; young = omega arith }
 
 pub returns : goal.returns
 returns c =
@@ -28,7 +19,7 @@ returns c =
     let rows : length m.stages ≡ 16 = search rules in
     same_state _ _ record {
       sites = ap (λ (t : State). t.sites) e;
-      status = λ x. read_reset m.status i Idle x ∙ ap (λ (t : State). upd t.status i Idle x) e;
+      status = λ x. read_reset m.island.status i Idle x ∙ ap (λ (t : State). upd t.status i Idle x) e;
       highest = λ x. ap (λ (t : State). t.highest x) e;
       number = λ x. ap (λ (t : State). t.number x) e;
       stage = λ a b.
