@@ -1,3 +1,2 @@
 pub mod Automaton
 pub mod Moves
-pub mod Parts

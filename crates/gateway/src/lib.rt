@@ -1,7 +1,6 @@
 // The gateway, by which a manager, its island, shares in the resource of an outer manager: an automaton of four states.
 #![tactic(auto)]
 
-mod calls;
 mod moves;
 mod questions;
 mod state;

@@ -1,9 +1,9 @@
-// A gateway goes round through its states, one due move at a time.
+// A gateway goes round through its states, one due move at a time. Its island, the outer manager and its post come as they are: a struct
+// of two `&mut` would be made for each call and taken apart in it.
 ghost use Rattle.std.specs.Prelude.{◌≡◌};
 ghost use Rattle.gateway.specs.Automaton.{link, due_at};
 ghost use Rattle.gateway.specs.Moves.{GoesOrRefuses, AdvancesOrRefuses};
 
-use crate::calls::{ask_island, ask_outer, free_island, free_outer};
 use crate::questions::{has_site, is_called, is_holding, last_site};
 use crate::state::Gateway;
 use manager::interface::Manager;
@@ -51,21 +51,22 @@ impl Gateway {
             (link self.old island.old outer.old)
             (link self.new island.new outer.new) result }
     {
+        let own = last_site(island);
         match *self {
             Gateway::Out => {
-                ask_outer(outer, post)?;
+                outer.ask(post)?;
                 *self = Gateway::Coming;
             }
             Gateway::Coming => {
-                free_island(island)?;
+                island.free(own)?;
                 *self = Gateway::In;
             }
             Gateway::In => {
-                ask_island(island)?;
+                island.ask(own)?;
                 *self = Gateway::Leaving;
             }
             Gateway::Leaving => {
-                free_outer(outer, post)?;
+                outer.free(post)?;
                 *self = Gateway::Out;
             }
         }

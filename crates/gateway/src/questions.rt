@@ -24,18 +24,12 @@ pub(crate) fn has_site<M: Manager>(part: &M, site: usize) -> bool
 pub(crate) fn is_called<M: Manager>(part: &M, site: usize) -> bool
     ensures tells_whether_called { result ≡ ((M.Manager.meaning part.now).called site && nat_lt site (M.Manager.meaning part.now).sites) }
 {
-    match part.called(site) {
-        Ok(called) => called,
-        Err(_) => false,
-    }
+    part.called(site).unwrap_or(false)
 }
 
 // Does the site hold in this manager? One that it has not does not.
 pub(crate) fn is_holding<M: Manager>(part: &M, site: usize) -> bool
     ensures tells_whether_holding { result ≡ (is_holding ((M.Manager.meaning part.now).status site) && nat_lt site (M.Manager.meaning part.now).sites) }
 {
-    match part.status(site) {
-        Ok(Status::Holding) => true,
-        _ => false,
-    }
+    part.status(site) == Ok(Status::Holding)
 }

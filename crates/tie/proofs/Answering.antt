@@ -38,9 +38,13 @@ accepted_call o done value x before between after call =
     record { answers = call.answers; leaves = λ e due. absurd (some_not_none e (sym due ∙ none)); does = call.does }
 
 module _ (m : Meaning) (i : ℕ) where
-  -- What is known once a call may name a site.
-  pub may_name : refused (NoSite ∷ (Worn ∷ [])) m i ≡ None → (i < m.sites) × (m.age < limit)
-  may_name none = (grind (arith, nat_tests), grind (arith, nat_tests))
+  -- A call that got past the check before it, and was carried out, leaves what stands after it, whatever is done besides.
+  pub named_call : {S A : Type 0} {o : Option Refusal} {done : Type 0} {value x : A} {before between after : S} →
+      Ok (tt {0}) ≡ answer (refused (NoSite ∷ (Worn ∷ [])) m i) (tt {0}) → (m.age < limit → i < m.sites → Call o done value before between (Ok x)) →
+      Call o done value before after (Ok x)
+  named_call may call =
+      let none = accepted (refused (NoSite ∷ (Worn ∷ [])) m i) (tt {0}) (tt {0}) may in
+      accepted_call _ _ _ _ _ _ _ (call (grind (arith, nat_tests)) (grind (arith, nat_tests)))
 
   pub may_step : refused step_order m i ≡ None → (i < m.underway) × (m.age < limit)
   may_step none = (grind (arith, nat_tests), grind (arith, nat_tests))

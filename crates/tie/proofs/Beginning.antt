@@ -1,10 +1,11 @@
 -- What parking the three parts and setting the gateways comes to: the tie is parked.
 use Rattle.std.proofs.Common.{◌≡◌, ℕ, subst}
 use Rattle.manager.specs.Kinds.{Kind}
-use Rattle.tie_rules.specs.Reading.{last, border}
+use Rattle.gateway.specs.Automaton.{last}
+use Rattle.tie_rules.specs.Reading.{border}
 use Rattle.tie_rules.specs.Rules.{Parks, parks_left, parks_right}
 use Rattle.tie_rules.specs.State.{Tie}
-use Rattle.tie_rules.specs.declared.Gateway.TheVariants.{Out, In}
+use Rattle.gateway.specs.declared.state.Gateway.TheVariants.{Out, In}
 use Rattle.tie.specs.Places.{PlacedAt}
 use Rattle.tie.specs.declared.sites.Place.TheVariants.{Left, Right}
 

@@ -2,6 +2,5 @@ pub mod Answering
 pub mod Beginning
 pub mod Holders
 pub mod Islands
-pub mod Moves
 pub mod Steps
 pub mod Stored

@@ -1,4 +1,4 @@
-pub mod Moving
 pub mod Places
 pub mod Reading
+pub mod Stepping
 pub mod Things

@@ -1,5 +1,8 @@
 -- Where a site of a tie is, and which of an island's sites are the tie's. Assumes nothing.
 use Rattle.std.specs.Prelude.{◌≡◌, ℕ, ◌+◌, ◌-◌, ◌<◌, ◌≤◌, cond, Some, None, Option, nat_lt}
+use Rattle.manager.specs.Answers.{holder_shown}
+use Rattle.manager.specs.Meaning.{Meaning}
+use Rattle.gateway.specs.Automaton.{last}
 use Rattle.tie.specs.declared.sites.Place.{Place}
 use Rattle.tie.specs.declared.sites.Place.TheVariants.{Left, Right}
 
@@ -17,3 +20,7 @@ own gateway offset (Some i) = cond (nat_lt i gateway) (Some (i + offset)) None
 abbrev pub reachable : Option ℕ → Option ℕ
 reachable None = None
 reachable (Some i) = cond (nat_lt i 64) (Some i) None
+
+-- The site that holds in an island, by the tie's number, if it is a site of the tie.
+abbrev pub own_holder_of : (island : Meaning) (offset : ℕ) → Option ℕ
+own_holder_of island offset = reachable (own (last island) offset (holder_shown island))

@@ -1,15 +1,15 @@
 -- The state of the rules that a tie stores. Assumes nothing.
 use Rattle.tie_rules.specs.State.{Tie as State, next}
-use Rattle.tie_rules.specs.declared.Gateway.TheVariants.{Out}
+use Rattle.gateway.specs.declared.state.Gateway.TheVariants.{Out}
 use Rattle.tie.specs.declared.state.Tie.{Tie}
 
 abbrev pub tie_of : {L R O : Type 0} → Tie L R O → State L R O
 tie_of t = record {
-  left = t.left;
-  right = t.right;
+  left = t.left.island;
+  right = t.right.island;
   outer = t.outer;
-  left_gate = t.left_gate;
-  right_gate = t.right_gate;
+  left_gate = t.left.gate;
+  right_gate = t.right.gate;
   age = t.age;
 }
 

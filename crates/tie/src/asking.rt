@@ -1,4 +1,4 @@
-// What an ask and a free do: a call of the site's island.
+// What an ask and a free do: a call of the site's island. That the tie is sound is a premise here, as in the interface.
 ghost use Rattle.std.specs.Prelude.{◌≡◌, ◌<◌};
 ghost use Rattle.manager.specs.Answers.{Call};
 ghost use Rattle.manager.specs.Meaning.{limit};
@@ -21,8 +21,8 @@ impl<L: Manager, R: Manager, O: Manager> Tie<L, R, O> {
         ensures age { self.new.age ≡ self.old.age }
     {
         match self.place(site) {
-            Place::Left(site) => self.left.ask(site),
-            Place::Right(site) => self.right.ask(site),
+            Place::Left(site) => self.left.island.ask(site),
+            Place::Right(site) => self.right.island.ask(site),
         }
     }
 
@@ -32,8 +32,8 @@ impl<L: Manager, R: Manager, O: Manager> Tie<L, R, O> {
         ensures age { self.new.age ≡ self.old.age }
     {
         match self.place(site) {
-            Place::Left(site) => self.left.free(site),
-            Place::Right(site) => self.right.free(site),
+            Place::Left(site) => self.left.island.free(site),
+            Place::Right(site) => self.right.island.free(site),
         }
     }
 }

@@ -5,7 +5,7 @@ ghost use Rattle.tie_rules.specs.Rules.{Parks, Asks, Frees, Steps};
 ghost use Rattle.tie_rules.proofs.Laws.{tie_laws};
 ghost use Rattle.tie.specs.Reading.{tie_of};
 
-use crate::sites::{Place, own_holder};
+use crate::sites::Place;
 use crate::state::Tie;
 use manager::checks::LIMIT;
 use manager::interface::Manager;
@@ -40,24 +40,23 @@ impl<L: Manager, R: Manager, O: Manager> Manager for Tie<L, R, O> {
     fn status(&self, site: usize) -> Result<Status, Refusal> {
         self.named(site)?;
         match self.place(site) {
-            Place::Left(site) => self.left.status(site),
-            Place::Right(site) => self.right.status(site),
+            Place::Left(site) => self.left.island.status(site),
+            Place::Right(site) => self.right.island.status(site),
         }
     }
 
     fn called(&self, site: usize) -> Result<bool, Refusal> {
         self.named(site)?;
         match self.place(site) {
-            Place::Left(site) => self.left.called(site),
-            Place::Right(site) => self.right.called(site),
+            Place::Left(site) => self.left.island.called(site),
+            Place::Right(site) => self.right.island.called(site),
         }
     }
 
     fn holder(&self) -> Option<usize> {
-        match own_holder(&self.left, 0) {
-            Some(site) => Some(site),
-            None => own_holder(&self.right, self.border()),
-        }
+        self.left
+            .own_holder(0)
+            .or_else(|| self.right.own_holder(self.border()))
     }
 
     fn underway(&self) -> u64 {
@@ -68,8 +67,9 @@ impl<L: Manager, R: Manager, O: Manager> Manager for Tie<L, R, O> {
     fn toll(&self) -> u64 {
         let largest = self
             .left
+            .island
             .toll()
-            .max(self.right.toll())
+            .max(self.right.island.toll())
             .max(self.outer.toll());
         LIMIT.min(9 * (largest + 1))
     }

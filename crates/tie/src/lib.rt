@@ -3,10 +3,9 @@
 
 mod asking;
 pub mod calls;
-mod gateways;
 mod making;
-mod parts;
 mod refusing;
+mod side;
 mod sites;
 pub mod state;
 mod stepping;

@@ -1,16 +1,12 @@
 // What a step does.
-ghost use Rattle.std.specs.Prelude.{◌≡◌, ℕ, ◌<◌, None, Ok, Option};
+ghost use Rattle.std.specs.Prelude.{◌≡◌, ℕ, ◌<◌, Ok, Option};
 ghost use Rattle.manager.specs.Meaning.{limit};
-ghost use Rattle.manager.specs.Refusals.{refused, step_order};
 ghost use Rattle.tie_rules.specs.Invariant.{Sound};
-ghost use Rattle.tie_rules.specs.Reading.{last, meaning_of};
+ghost use Rattle.tie_rules.specs.Reading.{meaning_of};
 ghost use Rattle.tie_rules.specs.Rules.{Steps};
-ghost use Rattle.tie.specs.Places.{own};
 ghost use Rattle.tie.specs.Reading.{tie_of, older};
+ghost use Rattle.tie.specs.Stepping.{StepsOuter};
 
-use crate::gateways::pass;
-use crate::parts::gateway_of;
-use crate::sites::own_site;
 use crate::state::Tie;
 use crate::things::Thing;
 use manager::interface::Manager;
@@ -24,28 +20,18 @@ impl<L: Manager, R: Manager, O: Manager> Tie<L, R, O> {
     {
         let border = self.border();
         match self.thing(k) {
-            Thing::Left(k) => step_island(&mut self.left, 0, k),
-            Thing::Right(k) => step_island(&mut self.right, border, k),
+            Thing::Left(k) => self.left.step(0, k),
+            Thing::Right(k) => self.right.step(border, k),
             Thing::Outer(k) => step_outer(&mut self.outer, k),
-            Thing::LeftMove => pass(&mut self.left_gate, &mut self.left, &mut self.outer, 0),
-            Thing::RightMove => pass(&mut self.right_gate, &mut self.right, &mut self.outer, 1),
+            Thing::LeftMove => self.left.advance(&mut self.outer, 0),
+            Thing::RightMove => self.right.advance(&mut self.outer, 1),
         }
     }
 }
 
-// Carries out thing k of an island, and answers the site of the tie that came to hold, if one did.
-fn step_island<I: Manager>(island: &mut I, offset: usize, k: u64) -> Result<Option<usize>, Refusal>
-    requires { offset < 64 }
-    ensures { I.Manager.sound island.old → refused step_order (I.Manager.meaning island.old) k ≡ None → (granted : Option ℕ) × (result ≡ Ok (own (last (I.Manager.meaning island.old)) offset granted)) × I.Manager.steps island.old k granted island.new }
-{
-    let gateway = gateway_of(island);
-    let granted = island.step(k)?;
-    Ok(own_site(gateway, offset, granted))
-}
-
 // Carries out thing k of the outer manager. Whoever holds there then is a gateway, so no site of the tie is granted.
 fn step_outer<O: Manager>(outer: &mut O, k: u64) -> Result<Option<usize>, Refusal>
-    ensures { O.Manager.sound outer.old → refused step_order (O.Manager.meaning outer.old) k ≡ None → (granted : Option ℕ) × (result ≡ Ok None) × O.Manager.steps outer.old k granted outer.new }
+    ensures steps_the_outer_manager { StepsOuter O.Manager outer.old k outer.new result }
 {
     outer.step(k)?;
     Ok(None)

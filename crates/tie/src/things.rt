@@ -1,16 +1,14 @@
 // The things under way in a tie: those of its parts, and the due moves of its gateways.
 ghost use Rattle.std.specs.Prelude.{◌≡◌, ◌<◌};
-ghost use Rattle.tie_rules.specs.Reading.{left_side, right_side, meaning_of};
-ghost use Rattle.tie_rules.specs.Sides.{due};
+ghost use Rattle.tie_rules.specs.Reading.{meaning_of};
 ghost use Rattle.tie.specs.Reading.{tie_of};
 ghost use Rattle.tie.specs.Things.{Numbered};
 
-use crate::gateways::is_due;
 use crate::state::Tie;
 use manager::checks::LIMIT;
 use manager::interface::Manager;
 
-// A thing of a part, by its number there, or the due move of a gateway.
+// A thing of a part, by its number there, or the due move of a gateway. The parts differ in type, so a step matches on the thing.
 #[derive(Clone, Copy)]
 pub(crate) enum Thing {
     Left(u64),
@@ -25,8 +23,11 @@ impl<L: Manager, R: Manager, O: Manager> Tie<L, R, O> {
     pub(crate) fn count_things(&self) -> u64
         ensures { result ≡ (meaning_of L.Manager R.Manager O.Manager (tie_of self.now)).underway }
     {
-        let parts = self.left.underway() + self.right.underway() + self.outer.underway();
-        let moves = self.left_due() as u64 + self.right_due() as u64;
+        let parts = self.left.island.underway()
+            + self.right.island.underway()
+            + self.outer.underway();
+        let moves = self.left.is_due(&self.outer, 0) as u64
+            + self.right.is_due(&self.outer, 1) as u64;
         LIMIT.min(parts + moves)
     }
 
@@ -35,8 +36,8 @@ impl<L: Manager, R: Manager, O: Manager> Tie<L, R, O> {
     pub(crate) fn thing(&self, k: u64) -> Thing
         ensures { k < (meaning_of L.Manager R.Manager O.Manager (tie_of self.now)).underway → Numbered L.Manager R.Manager O.Manager (tie_of self.now) k result }
     {
-        let before_right = self.left.underway();
-        let before_outer = before_right + self.right.underway();
+        let before_right = self.left.island.underway();
+        let before_outer = before_right + self.right.island.underway();
         let before_moves = before_outer + self.outer.underway();
         if k < before_right {
             Thing::Left(k)
@@ -44,24 +45,10 @@ impl<L: Manager, R: Manager, O: Manager> Tie<L, R, O> {
             Thing::Right(k - before_right)
         } else if k < before_moves {
             Thing::Outer(k - before_outer)
-        } else if k == before_moves && self.left_due() {
+        } else if k == before_moves && self.left.is_due(&self.outer, 0) {
             Thing::LeftMove
         } else {
             Thing::RightMove
         }
-    }
-
-    // Is a move of the left gateway due?
-    fn left_due(&self) -> bool
-        ensures { result ≡ due (left_side L.Manager R.Manager O.Manager (tie_of self.now)) (O.Manager.meaning self.now.outer) }
-    {
-        is_due(self.left_gate, &self.left, &self.outer, 0)
-    }
-
-    // Is a move of the right gateway due?
-    fn right_due(&self) -> bool
-        ensures { result ≡ due (right_side L.Manager R.Manager O.Manager (tie_of self.now)) (O.Manager.meaning self.now.outer) }
-    {
-        is_due(self.right_gate, &self.right, &self.outer, 1)
     }
 }

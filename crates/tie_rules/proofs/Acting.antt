@@ -4,15 +4,17 @@ use Rattle.manager.specs.Effects.{Asked, Freed, Stepped}
 use Rattle.manager.specs.Kinds.{Kind, Obeys}
 use Rattle.manager.specs.Meaning.{Meaning, limit}
 use Rattle.manager.specs.declared.status.Status.TheVariants.{Idle, Holding}
-use Rattle.tie_rules.specs.Reading.{last, lifted}
-use Rattle.tie_rules.specs.Rules.{Passes, asks_outer, frees_island, asks_island, frees_outer}
+use Rattle.gateway.specs.Automaton.{last}
+use Rattle.gateway.specs.Moves.{Passes, asks_outer, frees_island, asks_island, frees_outer, call_refused}
+use Rattle.tie_rules.specs.Reading.{lifted}
 use Rattle.tie_rules.specs.Sides.{Side, at}
-use Rattle.tie_rules.specs.declared.Gateway.{Gateway}
-use Rattle.tie_rules.specs.declared.Gateway.TheVariants.{Out, Coming, In, Leaving}
+use Rattle.gateway.specs.declared.state.Gateway.{Gateway}
+use Rattle.gateway.specs.declared.state.Gateway.TheVariants.{Out, Coming, In, Leaving}
 use Rattle.manager.proofs.Accepted.{ask_accepted, free_accepted, step_accepted}
 use Rattle.tie_rules.proofs.Calls.{ask_linked, ask_shown, free_linked, free_shown, step_linked, step_shown, outer_step_linked, outer_step_shown}
 use Rattle.tie_rules.proofs.Linked.{Linked}
-use Rattle.tie_rules.proofs.Passing.{Accepts, moves_accepted, asking_linked, asking_shown, arriving_linked, arriving_shown, recalling_linked, recalling_shown, leaving_linked, leaving_shown}
+use Rattle.tie_rules.proofs.Passing.{call_accepted, asking_linked, asking_shown, arriving_linked, arriving_shown}
+use Rattle.tie_rules.proofs.Passing.{recalling_linked, recalling_shown, leaving_linked, leaving_shown}
 use Rattle.tie_rules.proofs.Views.{On, Views}
 
 -- An island and its gateway as a side.
@@ -97,23 +99,23 @@ module _ {I O : Type 0} {ki : Kind I} {ko : Kind O} {p : I} {gate : Gateway} {po
       let lawful = r.outer_laws.lawful o' now.0 in
       outer_acted gate o' now.0 now.1.age (outer_step_linked a b n r.linked (ko.meaning o') lawful g now.1) (outer_step_shown a b n r.linked (ko.meaning o') lawful g now.1)
 
-  accepts : Accepts a n
-  accepts = moves_accepted a n r.linked.here r.young r.outer_young
+  accepts : (g : Gateway) → gate ≡ g → call_refused g m (last m) n post ≡ None
+  accepts = call_accepted a n r.linked.here r.young r.outer_young
 
   pub pass_acts : {p' : I} {g' : Gateway} {o' : O} → Passes ki ko post p gate o p' g' o' → Acted ki ko a b p o p' g' o' (λ t t'. Stepped t None t')
   pass_acts (asks_outer {o'} out called did) =
-      let now = r.outer_laws.asking o o' post r.outer_sound (accepts.out out) did in
+      let now = r.outer_laws.asking o o' post r.outer_sound (accepts Out out) did in
       let lawful = r.outer_laws.lawful o' now.0 in
       outer_acted Coming o' now.0 now.1.age (asking_linked a b n r.linked (ko.meaning o') lawful out called now.1) (asking_shown a b n r.linked (ko.meaning o') lawful out called now.1)
   pass_acts (frees_island {p'} coming holds did) =
-      let now = r.laws.freeing p p' a.gateway r.sound (accepts.coming coming) did in
+      let now = r.laws.freeing p p' a.gateway r.sound (accepts Coming coming) did in
       let lawful = r.laws.lawful p' now.0 in
       island_acted p' In (λ t t'. Stepped t None t') now.0 now.1.sites now.1.age (arriving_linked a b n r.linked (ki.meaning p') lawful coming holds now.1) (arriving_shown a b n r.linked (ki.meaning p') lawful coming holds now.1)
   pass_acts (asks_island {p'} came called did) =
-      let now = r.laws.asking p p' a.gateway r.sound (accepts.came came) did in
+      let now = r.laws.asking p p' a.gateway r.sound (accepts In came) did in
       let lawful = r.laws.lawful p' now.0 in
       island_acted p' Leaving (λ t t'. Stepped t None t') now.0 now.1.sites now.1.age (recalling_linked a b n r.linked (ki.meaning p') lawful came called now.1) (recalling_shown a b n r.linked (ki.meaning p') lawful came called now.1)
   pass_acts (frees_outer {o'} leaving holds did) =
-      let now = r.outer_laws.freeing o o' post r.outer_sound (accepts.leaving leaving) did in
+      let now = r.outer_laws.freeing o o' post r.outer_sound (accepts Leaving leaving) did in
       let lawful = r.outer_laws.lawful o' now.0 in
       outer_acted Out o' now.0 now.1.age (leaving_linked a b n r.linked (ko.meaning o') lawful leaving holds now.1) (leaving_shown a b n r.linked (ko.meaning o') lawful leaving holds now.1)

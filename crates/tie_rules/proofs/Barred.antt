@@ -4,7 +4,8 @@ use Rattle.std.proofs.lemmas.Bool.{cases_Bool, or_cases}
 use Rattle.manager.specs.Meaning.{Meaning, is_holding}
 use Rattle.manager.specs.declared.status.Status.TheVariants.{Holding}
 use Rattle.tie_rules.specs.Sides.{Side, Own, inside, barred_on}
-use Rattle.tie_rules.proofs.Linked.{Linked, holds_of, inside_holds, outside_holds, gateway_alone, holder_inside, inside_once}
+use Rattle.manager.proofs.Statuses.{holds_of}
+use Rattle.tie_rules.proofs.Linked.{Linked, inside_holds, outside_holds, gateway_alone, holder_inside, inside_once}
 
 pub data Barred (a b : Side) (o : Meaning) (i : ℕ) : Type 0 where
   -- the resource is in the island, where i is barred, or the gateway holds and takes it out

@@ -5,10 +5,11 @@ use Rattle.manager.specs.Effects.{CalledLasts, BarredLasts}
 use Rattle.manager.specs.Meaning.{Meaning, is_holding}
 use Rattle.manager.specs.declared.status.Status.TheVariants.{Holding}
 use Rattle.tie_rules.specs.Sides.{Side, at, Own, inside}
-use Rattle.tie_rules.specs.declared.Gateway.{Gateway}
-use Rattle.tie_rules.specs.declared.Gateway.TheVariants.{Out, In}
+use Rattle.gateway.specs.declared.state.Gateway.{Gateway}
+use Rattle.gateway.specs.declared.state.Gateway.TheVariants.{Out, In}
 use Rattle.tie_rules.proofs.Barred.{Barred, island_bars, gateway_takes, post_barred, other_barred, other_comes, barred_alone}
-use Rattle.tie_rules.proofs.Linked.{Linked, linked_turned, holds_of, holds_not, inside_holds, outside_holds, gateway_alone, busy_own, outer_alone, inside_once, busy_post}
+use Rattle.manager.proofs.Statuses.{holds_of}
+use Rattle.tie_rules.proofs.Linked.{Linked, linked_turned, holds_not, inside_holds, outside_holds, gateway_alone, busy_own, outer_alone, inside_once, busy_post}
 
 -- Sides a and b with the outer manager o have become a', b' and o': what lasts for the sites of a.
 pub record Kept (a b : Side) (o : Meaning) (a' b' : Side) (o' : Meaning) : Type 0 where

@@ -8,8 +8,8 @@ use Rattle.manager.specs.declared.status.Status.TheVariants.{Idle, Waiting, Hold
 use Rattle.tie_rules.specs.Invariant.{StandsAt}
 use Rattle.tie_rules.specs.Reading.{things}
 use Rattle.tie_rules.specs.Sides.{Side, Own, due}
-use Rattle.tie_rules.specs.declared.Gateway.{Gateway}
-use Rattle.tie_rules.specs.declared.Gateway.TheVariants.{Out, Coming, In, Leaving}
+use Rattle.gateway.specs.declared.state.Gateway.{Gateway}
+use Rattle.gateway.specs.declared.state.Gateway.TheVariants.{Out, Coming, In, Leaving}
 use Rattle.tie_rules.proofs.Barred.{barred_cases, barred_alone, barred_alone_there}
 use Rattle.tie_rules.proofs.Linked.{Sided, Linked, linked_turned, holder_inside, busy_own, inside_once}
 use Rattle.tie_rules.proofs.Views.{On, Views, views_turned, status_on, called_on, barred_at}

@@ -12,8 +12,8 @@ use Rattle.tie_rules.specs.Reading.{border, left_side, right_side, lifted, meani
 use Rattle.tie_rules.specs.Rules.{AtSite, at_left, at_right, Asks, Frees, Parks, parks_left, parks_right, Steps, left_steps, right_steps, outer_steps, left_moves, right_moves}
 use Rattle.tie_rules.specs.Sides.{Side, at}
 use Rattle.tie_rules.specs.State.{Tie, next}
-use Rattle.tie_rules.specs.declared.Gateway.{Gateway}
-use Rattle.tie_rules.specs.declared.Gateway.TheVariants.{Out, In}
+use Rattle.gateway.specs.declared.state.Gateway.{Gateway}
+use Rattle.gateway.specs.declared.state.Gateway.TheVariants.{Out, In}
 use Rattle.manager.proofs.Accepted.{accepted_site, accepted_ask, accepted_free, accepted_step}
 use Rattle.tie_rules.proofs.Acting.{Acted, Ready, ask_acts, free_acts, step_acts, outer_step_acts, pass_acts}
 use Rattle.tie_rules.proofs.Lawful.{linked_lawful}

@@ -1,14 +1,14 @@
 -- What soundness says of two sides and of the outer manager between them, told alike from either side.
-use Rattle.std.proofs.Common.{◌≡◌, ℕ, ◌+◌, ◌<◌, true, false, refl, inl, inr, arith}
+use Rattle.std.proofs.Common.{◌≡◌, ℕ, ◌+◌, ◌<◌, true, false, inl, inr, arith}
 use Rattle.std.proofs.lemmas.Bool.{cases_Bool, cases_lt}
 use Rattle.manager.specs.Laws.{Lawful}
 use Rattle.manager.specs.Meaning.{Meaning, is_holding}
 use Rattle.manager.specs.declared.status.Status.{Status}
-use Rattle.manager.specs.declared.status.Status.TheVariants.{Idle, Waiting, Holding}
+use Rattle.manager.specs.declared.status.Status.TheVariants.{Idle, Holding}
 use Rattle.tie_rules.specs.Invariant.{StandsAt, Stands, Unreached}
 use Rattle.tie_rules.specs.Sides.{Side, Own, inside}
-use Rattle.tie_rules.specs.declared.Gateway.{Gateway}
-use Rattle.tie_rules.specs.declared.Gateway.TheVariants.{Out, Coming, In, Leaving}
+use Rattle.gateway.specs.declared.state.Gateway.{Gateway}
+use Rattle.gateway.specs.declared.state.Gateway.TheVariants.{Out, Coming, In, Leaving}
 
 pub record Sided (a : Side) (o : Meaning) : Type 0 where
   pub lawful : Lawful a.island
@@ -32,11 +32,6 @@ linked_turned v = record {
   apart = λ e. v.apart (cc);
   unused = λ j l p q. v.unused j l q p;
 }
-
-pub holds_of : (x : Status) → is_holding x ≡ true → x ≡ Holding
-holds_of Idle h = grind arith
-holds_of Waiting h = grind arith
-holds_of Holding h = refl
 
 pub holds_not : (x : Status) → is_holding x ≡ false → x ≡ Holding → ⊥
 holds_not x h e = grind arith

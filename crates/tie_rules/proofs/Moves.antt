@@ -6,10 +6,11 @@ use Rattle.manager.specs.Effects.{BarredLasts}
 use Rattle.manager.specs.Meaning.{Meaning, is_holding}
 use Rattle.manager.specs.declared.status.Status.TheVariants.{Holding}
 use Rattle.tie_rules.specs.Sides.{Side, at, inside, settled, weigh, moves}
-use Rattle.tie_rules.specs.declared.Gateway.{Gateway}
-use Rattle.tie_rules.specs.declared.Gateway.TheVariants.{Out, Coming, In, Leaving}
+use Rattle.gateway.specs.declared.state.Gateway.{Gateway}
+use Rattle.gateway.specs.declared.state.Gateway.TheVariants.{Out, Coming, In, Leaving}
 use Rattle.manager.proofs.First.{first_found, first_some}
-use Rattle.tie_rules.proofs.Linked.{Sided, Linked, holds_of, inside_holds, gateway_alone, outer_alone, inside_once}
+use Rattle.manager.proofs.Statuses.{holds_of}
+use Rattle.tie_rules.proofs.Linked.{Sided, Linked, inside_holds, gateway_alone, outer_alone, inside_once}
 
 -- One of the island's sites below the gateway holds.
 abbrev own_holds : Side → Bool

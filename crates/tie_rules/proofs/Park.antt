@@ -7,7 +7,7 @@ use Rattle.manager.specs.Meaning.{Meaning}
 use Rattle.manager.specs.declared.status.Status.TheVariants.{Idle}
 use Rattle.tie_rules.specs.Reading.{largest, things}
 use Rattle.tie_rules.specs.Sides.{Side, at, moves}
-use Rattle.tie_rules.specs.declared.Gateway.TheVariants.{Out, In}
+use Rattle.gateway.specs.declared.state.Gateway.TheVariants.{Out, In}
 use Rattle.tie_rules.proofs.Linked.{Linked}
 use Rattle.tie_rules.proofs.Moves.{holder_settles}
 use Rattle.tie_rules.proofs.Views.{On, Views, status_on, barred_at}

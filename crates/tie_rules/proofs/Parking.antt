@@ -4,8 +4,8 @@ use Rattle.manager.specs.Effects.{Parked}
 use Rattle.manager.specs.Kinds.{Kind, Obeys}
 use Rattle.manager.specs.Meaning.{Meaning}
 use Rattle.tie_rules.specs.Sides.{Side, at}
-use Rattle.tie_rules.specs.declared.Gateway.{Gateway}
-use Rattle.tie_rules.specs.declared.Gateway.TheVariants.{Out, In}
+use Rattle.gateway.specs.declared.state.Gateway.{Gateway}
+use Rattle.gateway.specs.declared.state.Gateway.TheVariants.{Out, In}
 use Rattle.manager.proofs.Accepted.{site_accepted}
 use Rattle.tie_rules.proofs.Acting.{part_side}
 use Rattle.tie_rules.proofs.Linked.{Linked}

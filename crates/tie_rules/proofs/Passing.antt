@@ -1,14 +1,18 @@
 -- The four moves of a gateway, as the tie shows them: each keeps the sides linked and is a step that grants nobody.
-use Rattle.std.proofs.Common.{◌≡◌, ℕ, ◌+◌, ◌<◌, true, false, None, sym, refl, ap, arith}
+use Rattle.std.proofs.Common.{◌≡◌, ℕ, ◌+◌, ◌<◌, true, false, Some, None, sym, refl, ap, ◌∙◌, arith}
+use Rattle.std.proofs.lemmas.Bool.{cond-true}
+use Rattle.std.proofs.lemmas.Bool.Decides.{nat_tests}
 use Rattle.manager.specs.Effects.{Asked, Freed, Stepped}
 use Rattle.manager.specs.Laws.{Lawful}
 use Rattle.manager.specs.Meaning.{Meaning, limit}
-use Rattle.manager.specs.Refusals.{refused, ask_order, free_order}
+use Rattle.manager.specs.declared.refusal.Refusal.TheVariants.{NoThing}
 use Rattle.manager.specs.declared.status.Status.TheVariants.{Holding}
 use Rattle.tie_rules.specs.Invariant.{StandsAt}
-use Rattle.tie_rules.specs.Sides.{Side, at, inside}
-use Rattle.tie_rules.specs.declared.Gateway.{Gateway}
-use Rattle.tie_rules.specs.declared.Gateway.TheVariants.{Out, Coming, In, Leaving}
+use Rattle.gateway.specs.Automaton.{due as due_between}
+use Rattle.gateway.specs.Moves.{call_refused, move_refused}
+use Rattle.tie_rules.specs.Sides.{Side, at, inside, due}
+use Rattle.gateway.specs.declared.state.Gateway.{Gateway}
+use Rattle.gateway.specs.declared.state.Gateway.TheVariants.{Out, Coming, In, Leaving}
 use Rattle.manager.proofs.Accepted.{ask_accepted, free_accepted}
 use Rattle.tie_rules.proofs.Kept.{island_here, island_there, outer_here, arrives_here, arrives_there, leaves_here, leaves_there}
 use Rattle.tie_rules.proofs.Linked.{Sided, Linked, linked_turned}
@@ -17,26 +21,27 @@ use Rattle.tie_rules.proofs.Sites.{keeps_same, asked_keeps, freed_keeps, keeps_h
 use Rattle.tie_rules.proofs.Tied.{move_work, all_keep, tie_stepped}
 use Rattle.tie_rules.proofs.Views.{Views}
 
+-- A gateway's move is due to it if it is due to the tie, since the outer manager has its post.
+pub due_alike : (a : Side) (o : Meaning) → a.post < o.sites → due_between a.gate a.island a.gateway o a.post ≡ due a o
+due_alike a o within = grind (arith, nat_tests)
+
 -- What a gateway known to be in state g says.
 pub stands_in : (a : Side) (o : Meaning) (g : Gateway) → Sided a o → a.gate ≡ g → StandsAt g a.island a.gateway o a.post
 stands_in a o g v e = rw e at v.stands
 
--- The call of a gateway's due move is accepted, whatever its state.
-pub record Accepts (a : Side) (o : Meaning) : Type 0 where
-  pub out : a.gate ≡ Out → refused ask_order o a.post ≡ None
-  pub coming : a.gate ≡ Coming → refused free_order a.island a.gateway ≡ None
-  pub came : a.gate ≡ In → refused ask_order a.island a.gateway ≡ None
-  pub leaving : a.gate ≡ Leaving → refused free_order o a.post ≡ None
+module _ (a : Side) (o : Meaning) (v : Sided a o) (young : a.island.age < limit) (outer_young : o.age < limit) where
+  -- The call of a gateway's move is accepted, whatever its state,
+  pub call_accepted : (g : Gateway) → a.gate ≡ g → call_refused g a.island a.gateway o a.post ≡ None
+  call_accepted Out e = ask_accepted o a.post v.post outer_young (stands_in a o Out v e).1
+  call_accepted Coming e = free_accepted a.island a.gateway (omega (arith, v.sites)) young (stands_in a o Coming v e).0
+  call_accepted In e = ask_accepted a.island a.gateway (omega (arith, v.sites)) young (stands_in a o In v e).0
+  call_accepted Leaving e = free_accepted o a.post v.post outer_young (stands_in a o Leaving v e).1
 
-pub moves_accepted : (a : Side) (o : Meaning) → Sided a o → a.island.age < limit → o.age < limit → Accepts a o
-moves_accepted a o v young outer_young =
-    let site : a.gateway < a.island.sites = omega (arith, v.sites) in
-    record {
-      out = λ e. ask_accepted o a.post v.post outer_young (stands_in a o Out v e).1;
-      coming = λ e. free_accepted a.island a.gateway site young (stands_in a o Coming v e).0;
-      came = λ e. ask_accepted a.island a.gateway site young (stands_in a o In v e).0;
-      leaving = λ e. free_accepted o a.post v.post outer_young (stands_in a o Leaving v e).1;
-    }
+  -- and so is the move, once it is due.
+  pub move_accepted : due a o ≡ true → move_refused a.gate a.island a.gateway o a.post ≡ None
+  move_accepted now_due =
+      cond-true (due_between a.gate a.island a.gateway o a.post) (call_refused a.gate a.island a.gateway o a.post) (Some NoThing)
+      (due_alike a o v.post ∙ now_due) ∙ call_accepted a.gate refl
 
 module _ (a b : Side) (o : Meaning) (v : Linked a b o) where
   away : b.post ≡ a.post → ⊥

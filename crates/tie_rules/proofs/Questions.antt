@@ -1,12 +1,14 @@
 -- What a tie answers, from what its parts answer, sound or not.
 use Rattle.std.proofs.Common.{◌≡◌, ℕ, ◌+◌, ◌-◌, ◌*◌, ◌<◌, ◌≤◌, min, max, Bool, true, false, cond, ◌&&◌, ltb, ◌⊎◌, Some, None, Ok, Option, refl, ap, ◌∙◌, inl, inr, arith}
+use Rattle.std.specs.Option.{option_or}
 use Rattle.std.proofs.lemmas.Bool.{cases_eq, cases_lt, cond-true, cond-false, cond_both, and_parts, and_cases, ltb-true, ltb-false, lt-ltb, le-ltb}
 use Rattle.counting.specs.Sums.{one_if}
 use Rattle.manager.specs.Answers.{answer, status_shown, called_shown, holder_shown, toll_shown}
 use Rattle.manager.specs.Kinds.{Kind}
 use Rattle.manager.specs.Meaning.{Meaning, limit, is_holding}
 use Rattle.manager.specs.declared.refusal.Refusal.{Refusal}
-use Rattle.tie_rules.specs.Reading.{last, border, left_side, right_side, meaning_of}
+use Rattle.gateway.specs.Automaton.{last}
+use Rattle.tie_rules.specs.Reading.{border, left_side, right_side, meaning_of}
 use Rattle.tie_rules.specs.Rules.{before_left_move, before_right_move}
 use Rattle.tie_rules.specs.Sides.{due}
 use Rattle.tie_rules.specs.State.{Tie}
@@ -25,10 +27,6 @@ module _ (m : Meaning) (i : ℕ) (l : i < m.sites) where
 abbrev pub own_holder : (gateway offset : ℕ) → Option ℕ → Option ℕ
 own_holder gateway offset None = None
 own_holder gateway offset (Some i) = cond (ltb i gateway && ltb (i + offset) 64) (Some (i + offset)) None
-
-abbrev pub or_else : Option ℕ → Option ℕ → Option ℕ
-or_else None q = q
-or_else (Some i) q = Some i
 
 -- What own_holder finds: the first of the tie's own sites that passes the test, or none.
 abbrev FindsOwn : (ℕ → Bool) → (gateway offset : ℕ) → Option ℕ → Type 0
@@ -49,7 +47,8 @@ own_finds test n off sites most (Some i) (l, passes, before) =
     ])
 
 -- A test that is one below n and another from n on.
-both_find : (test near far : ℕ → Bool) (n k : ℕ) → ((x : ℕ) → x < n → test x ≡ near x) → ((x : ℕ) → n ≤ x → test x ≡ far (x - n)) → (p q : Option ℕ) → FindsOwn near n 0 p → FindsOwn far k n q → Finds test (min 64 (n + k)) (or_else p q)
+both_find : (test near far : ℕ → Bool) (n k : ℕ) → ((x : ℕ) → x < n → test x ≡ near x) → ((x : ℕ) → n ≤ x → test x ≡ far (x - n)) → (p q : Option ℕ) →
+    FindsOwn near n 0 p → FindsOwn far k n q → Finds test (min 64 (n + k)) (option_or p q)
 both_find test near far n k below above (Some y) q (i, l, is, small, passes, before) f =
     (omega arith, below y (omega arith) ∙ ap near (omega arith) ∙ passes, λ j h. below j (omega arith) ∙ before j (omega arith))
 both_find test near far n k below above None (Some y) none (i, l, is, small, passes, before) = (
@@ -99,12 +98,19 @@ module _ {L R O : Type 0} (kl : Kind L) (kr : Kind R) (ko : Kind O) (t : Tie L R
   called_right x h = cond-false (ltb x (border kl kr ko t)) (left.called x) (right.called (x - border kl kr ko t)) (le-ltb x (border kl kr ko t) h)
 
   -- The left island's holder, if it is not the gateway, or else the right's.
-  pub holder_from_parts : holder_shown whole ≡ or_else (own_holder (border kl kr ko t) 0 (holder_shown left)) (own_holder (last right) (border kl kr ko t) (holder_shown right))
+  pub holder_from_parts :
+      holder_shown whole ≡ option_or (own_holder (border kl kr ko t) 0 (holder_shown left)) (own_holder (last right) (border kl kr ko t) (holder_shown right))
   holder_from_parts =
       let holds : ℕ → Bool = λ x. is_holding (whole.status x) in
       let near : ℕ → Bool = λ i. is_holding (left.status i) in
       let far : ℕ → Bool = λ i. is_holding (right.status i) in
-      finds_first holds whole.sites (or_else (own_holder (border kl kr ko t) 0 (holder_shown left)) (own_holder (last right) (border kl kr ko t) (holder_shown right))) (both_find holds near far (border kl kr ko t) (last right) (λ x h. ap is_holding (status_left x h)) (λ x h. ap is_holding (status_right x h)) (own_holder (border kl kr ko t) 0 (holder_shown left)) (own_holder (last right) (border kl kr ko t) (holder_shown right)) (own_finds near (border kl kr ko t) 0 left.sites (omega arith) (holder_shown left) (first_finds near left.sites)) (own_finds far (last right) (border kl kr ko t) right.sites (omega arith) (holder_shown right) (first_finds far right.sites)))
+      let near_holder = own_holder (border kl kr ko t) 0 (holder_shown left) in
+      let far_holder = own_holder (last right) (border kl kr ko t) (holder_shown right) in
+      let near_finds = own_finds near (border kl kr ko t) 0 left.sites (omega arith) (holder_shown left) (first_finds near left.sites) in
+      let far_finds = own_finds far (last right) (border kl kr ko t) right.sites (omega arith) (holder_shown right) (first_finds far right.sites) in
+      finds_first holds whole.sites (option_or near_holder far_holder)
+      (both_find holds near far (border kl kr ko t) (last right) (λ x h. ap is_holding (status_left x h)) (λ x h. ap is_holding (status_right x h))
+      near_holder far_holder near_finds far_finds)
 
   -- Computed from tolls that are cut at the limit, the tie's toll is the same once it is cut.
   pub toll_from_parts : toll_shown whole ≡ min (9 * (max (toll_shown left) (max (toll_shown right) (toll_shown outer)) + 1)) limit

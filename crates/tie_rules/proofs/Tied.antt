@@ -6,7 +6,7 @@ use Rattle.manager.specs.Meaning.{Meaning}
 use Rattle.manager.specs.declared.status.Status.TheVariants.{Holding}
 use Rattle.tie_rules.specs.Reading.{largest, lifted}
 use Rattle.tie_rules.specs.Sides.{Side, at, Own, moves}
-use Rattle.tie_rules.specs.declared.Gateway.{Gateway}
+use Rattle.gateway.specs.declared.state.Gateway.{Gateway}
 use Rattle.tie_rules.proofs.Barred.{barred_cases, barred_from}
 use Rattle.tie_rules.proofs.Kept.{Kept}
 use Rattle.tie_rules.proofs.Linked.{Sided, busy_own}

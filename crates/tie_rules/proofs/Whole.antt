@@ -7,7 +7,7 @@ use Rattle.tie_rules.specs.Invariant.{Stands, Unreached, Sound}
 use Rattle.tie_rules.specs.Reading.{joined, border, left_side, right_side, meaning_of}
 use Rattle.tie_rules.specs.Sides.{Side, at}
 use Rattle.tie_rules.specs.State.{Tie, next}
-use Rattle.tie_rules.specs.declared.Gateway.{Gateway}
+use Rattle.gateway.specs.declared.state.Gateway.{Gateway}
 use Rattle.tie_rules.proofs.Acting.{Acted}
 use Rattle.tie_rules.proofs.Linked.{Linked, linked_turned}
 use Rattle.tie_rules.proofs.Views.{On, Views, views_turned, joined_views}

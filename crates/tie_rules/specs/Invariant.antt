@@ -6,8 +6,8 @@ use Rattle.manager.specs.declared.status.Status.TheVariants.{Idle, Waiting, Hold
 use Rattle.tie_rules.specs.Reading.{left_side, right_side}
 use Rattle.tie_rules.specs.Sides.{Side}
 use Rattle.tie_rules.specs.State.{Tie}
-use Rattle.tie_rules.specs.declared.Gateway.{Gateway}
-use Rattle.tie_rules.specs.declared.Gateway.TheVariants.{Out, Coming, In, Leaving}
+use Rattle.gateway.specs.declared.state.Gateway.{Gateway}
+use Rattle.gateway.specs.declared.state.Gateway.TheVariants.{Out, Coming, In, Leaving}
 
 -- What a gateway's state says of it as site g of its island m and as site p of the outer manager o. That it was called
 -- lasts until it frees, and it frees by its own move alone.

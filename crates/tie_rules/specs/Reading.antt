@@ -3,12 +3,9 @@ use Rattle.std.specs.Prelude.{ℕ, ◌+◌, ◌-◌, ◌*◌, min, max, cond, So
 use Rattle.counting.specs.Sums.{one_if}
 use Rattle.manager.specs.Kinds.{Kind}
 use Rattle.manager.specs.Meaning.{Meaning, limit}
+use Rattle.gateway.specs.Automaton.{last}
 use Rattle.tie_rules.specs.Sides.{Side, due, moves, barred_on}
 use Rattle.tie_rules.specs.State.{Tie}
-
--- An island's last site is its gateway.
-abbrev pub last : Meaning → ℕ
-last m = m.sites - 1
 
 -- The largest toll of the three parts.
 abbrev pub largest : (a b : Side) (o : Meaning) → ℕ

@@ -1,20 +1,14 @@
 -- What each call of a tie does, in calls of its parts. Assumes nothing.
-use Rattle.std.specs.Prelude.{◌≡◌, ℕ, ◌+◌, ◌-◌, ◌<◌, ◌≤◌, true, None, Option}
+use Rattle.std.specs.Prelude.{◌≡◌, ℕ, ◌+◌, ◌-◌, ◌<◌, ◌≤◌, None, Option}
 use Rattle.counting.specs.Sums.{one_if}
 use Rattle.manager.specs.Kinds.{Kind}
-use Rattle.manager.specs.declared.status.Status.TheVariants.{Holding}
-use Rattle.tie_rules.specs.Reading.{last, border, left_side, lifted}
+use Rattle.gateway.specs.Automaton.{last}
+use Rattle.gateway.specs.Moves.{Passes}
+use Rattle.tie_rules.specs.Reading.{border, left_side, lifted}
 use Rattle.tie_rules.specs.Sides.{due}
 use Rattle.tie_rules.specs.State.{Tie, next}
-use Rattle.tie_rules.specs.declared.Gateway.{Gateway}
-use Rattle.tie_rules.specs.declared.Gateway.TheVariants.{Out, Coming, In, Leaving}
-
--- A due move of a gateway, whose island is p, whose outer site is post of o, and what it leaves of all three.
-pub data Passes {I O : Type 0} (ki : Kind I) (ko : Kind O) (post : ℕ) (p : I) (gate : Gateway) (o : O) : I → Gateway → O → Type 0 where
-  asks_outer : {o' : O} → gate ≡ Out → (ki.meaning p).called (last (ki.meaning p)) ≡ true → ko.asks o post o' → Passes ki ko post p gate o p Coming o'
-  frees_island : {p' : I} → gate ≡ Coming → (ko.meaning o).status post ≡ Holding → ki.frees p (last (ki.meaning p)) p' → Passes ki ko post p gate o p' In o
-  asks_island : {p' : I} → gate ≡ In → (ko.meaning o).called post ≡ true → ki.asks p (last (ki.meaning p)) p' → Passes ki ko post p gate o p' Leaving o
-  frees_outer : {o' : O} → gate ≡ Leaving → (ki.meaning p).status (last (ki.meaning p)) ≡ Holding → ko.frees o post o' → Passes ki ko post p gate o p Out o'
+use Rattle.gateway.specs.declared.state.Gateway.{Gateway}
+use Rattle.gateway.specs.declared.state.Gateway.TheVariants.{Out, In}
 
 -- A call that names site i of the tie is a call of the site's island, by what such a call does there; all else stays.
 pub data AtSite {L R O : Type 0} (kl : Kind L) (kr : Kind R) (ko : Kind O) (does_left : L → ℕ → L → Type 0) (does_right : R → ℕ → R → Type 0) (t : Tie L R O) (i : ℕ) (t' : Tie L R O) : Type 0 where

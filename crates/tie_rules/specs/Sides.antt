@@ -2,8 +2,9 @@
 use Rattle.std.specs.Prelude.{ℕ, ◌+◌, ◌<◌, Bool, true, false, cond, ◌||◌, is_some}
 use Rattle.manager.specs.Answers.{first}
 use Rattle.manager.specs.Meaning.{Meaning, is_holding}
-use Rattle.tie_rules.specs.declared.Gateway.{Gateway}
-use Rattle.tie_rules.specs.declared.Gateway.TheVariants.{Out, Coming, In, Leaving}
+use Rattle.gateway.specs.Automaton.{awaited}
+use Rattle.gateway.specs.declared.state.Gateway.{Gateway}
+use Rattle.gateway.specs.declared.state.Gateway.TheVariants.{Out, Coming, In, Leaving}
 
 -- A side is an island with its gateway.
 pub record Side : Type 0 where
@@ -33,12 +34,7 @@ inside Leaving = true
 
 -- Is a move of the gateway due? The outer manager means o.
 abbrev pub due : Side → (o : Meaning) → Bool
-due a o = elim a.gate [
-  | Out ↦ a.island.called a.gateway
-  | Coming ↦ is_holding (o.status a.post)
-  | In ↦ o.called a.post
-  | Leaving ↦ is_holding (a.island.status a.gateway)
-]
+due a o = awaited a.gate a.island a.gateway o a.post
 
 -- A side is settled if one of its own sites holds, or its gateway is barred so that one of them holds first. It stays
 -- so until a site frees.

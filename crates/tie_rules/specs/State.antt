@@ -1,6 +1,6 @@
 -- The state of a tie: a left island, a right island and an outer manager that joins them. Assumes nothing.
 use Rattle.std.specs.Prelude.{ℕ, ◌+◌}
-use Rattle.tie_rules.specs.declared.Gateway.{Gateway}
+use Rattle.gateway.specs.declared.state.Gateway.{Gateway}
 
 -- An island is a manager whose last site, its gateway, stands for the rest of the world. The gateways meet at the outer
 -- manager: the left one acts at its site 0, the right one at its site 1, and no other site of it ever asks.

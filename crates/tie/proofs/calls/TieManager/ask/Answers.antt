@@ -1,10 +1,9 @@
 use Rattle.tie_rules.specs.Reading.{meaning_of}
 use Rattle.tie.specs.Reading.{tie_of}
-use Rattle.tie.proofs.Answering.{accepted, may_name, accepted_call}
+use Rattle.tie.proofs.Answering.{named_call}
 use Rattle.tie.proofs.calls.TieManager.ask.Goals as goal
 
 pub returns : goal.returns
-returns g c = λ v.
-    let m = meaning_of g.L.Manager g.R.Manager g.O.Manager (tie_of c.args.self.now) in
-    let known = may_name m c.args.site (accepted _ _ _ c.in_ok-may_name.ensures) in
-    accepted_call _ _ _ _ _ _ _ (c.in_ok-status.ensures.asks v known.1 known.0)
+returns g c =
+    λ v. named_call (meaning_of g.L.Manager g.R.Manager g.O.Manager (tie_of c.args.self.now)) c.args.site c.in_ok-may_name.ensures
+    (c.in_ok-status.ensures.asks v)

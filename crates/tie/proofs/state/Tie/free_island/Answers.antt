@@ -1,21 +1,16 @@
 use Rattle.std.proofs.Common.{refl}
-use Rattle.tie.specs.Reading.{tie_of}
-use Rattle.tie.proofs.Islands.{free_left, free_right}
+use Rattle.manager.specs.Refusals.{free_order}
+use Rattle.manager.proofs.Accepted.{free_refused_alike}
+use Rattle.tie.proofs.Islands.{left_told, right_told}
 use Rattle.tie.proofs.Stored.{left_as_was, right_as_was}
 use Rattle.tie.proofs.state.Tie.free_island.Goals as goal
 
-pub returns-in-Left : goal.returns-in-Left
-returns-in-Left g c = record {
-  frees = λ v young within.
-      let t = c.args.self.now in
-      free_left g.L.Manager g.R.Manager g.O.Manager (tie_of t) v young c.args.site c.in-Left.site within _ _ g.met.L.Manager.laws c.free.new.self c.in-Left.ensures (left_as_was t _ c.free.new.self) c.free.result (c.free.ensures v.left);
-  age = refl;
-}
+pub returns-in-Left-clause-frees : goal.returns-in-Left-clause-frees
+returns-in-Left-clause-frees g c = λ v young within.
+    left_told v young within free_order free_refused_alike g.L.Manager.frees g.R.Manager.frees c.in-Left.ensures (left_as_was c.args.self.now _ _)
+    (λ none did. refl) (c.free.ensures v.left)
 
-pub returns-in-Right : goal.returns-in-Right
-returns-in-Right g c = record {
-  frees = λ v young within.
-      let t = c.args.self.now in
-      free_right g.L.Manager g.R.Manager g.O.Manager (tie_of t) v young c.args.site c.in-Right.site within _ _ c.free-in-Right.new.self c.in-Right.ensures (right_as_was t _ c.free-in-Right.new.self) c.free-in-Right.result (c.free-in-Right.ensures v.right);
-  age = refl;
-}
+pub returns-in-Right-clause-frees : goal.returns-in-Right-clause-frees
+returns-in-Right-clause-frees g c = λ v young within.
+    right_told v young within free_order free_refused_alike g.L.Manager.frees g.R.Manager.frees c.in-Right.ensures (right_as_was c.args.self.now _ _)
+    (λ none did. refl) (c.free-in-Right.ensures v.right)
