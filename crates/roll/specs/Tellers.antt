@@ -1,7 +1,6 @@
 -- Counting the elements of a list by the number that each tells. Assumes nothing.
-use Rattle.std.specs.Prelude.{ℕ, ◌+◌, cond, List, [], ◌∷◌, ◌==◌}
+use Rattle.std.specs.Prelude.{ℕ, List, ◌==◌, count_by}
 
 -- How many elements tell n.
 abbrev pub tellers : {T : Type 0} → (T → ℕ) → List T → ℕ → ℕ
-tellers told [] n = 0
-tellers told (x ∷ xs) n = cond (told x == n) 1 0 + tellers told xs n
+tellers told xs n = count_by (λ x. told x == n) xs

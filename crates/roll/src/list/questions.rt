@@ -18,8 +18,7 @@ impl<'a, T: Copy> Roll<'a, T> {
     pub fn is_empty(&self) -> bool
         ensures tells_whether_none { result ≡ (self.now.len == 0) }
     {
-        let elements = self.len();
-        elements == 0
+        self.as_slice().is_empty()
     }
 
     // How many places are free.
@@ -29,15 +28,18 @@ impl<'a, T: Copy> Roll<'a, T> {
         self.items.len() - self.len
     }
 
+    // The elements, first to last.
+    pub fn as_slice(&self) -> &[T]
+        ensures has_the_elements_in_order { result.now ≡ written self.now }
+    {
+        &self.items[..self.len]
+    }
+
     // The element at a place, counting from 0, if there is one.
     pub fn get(&self, place: usize) -> Option<T>
         ensures { result ≡ slice_get (written self.now) place }
     {
-        if place < self.len {
-            self.items.get(place).copied()
-        } else {
-            None
-        }
+        self.as_slice().get(place).copied()
     }
 }
 
@@ -46,13 +48,6 @@ impl<'a, T: Copy + TellsSite> Roll<'a, T> {
     pub fn count(&self, site: usize) -> usize
         ensures { result ≡ tellers T.TellsSite.told (written self.now) site }
     {
-        let mut found = 0;
-        let items = &*self.items;
-        for item in &items[0..self.len] {
-            if item.site() == site {
-                found += 1;
-            }
-        }
-        found
+        self.iter().filter(|item| item.site() == site).count()
     }
 }
