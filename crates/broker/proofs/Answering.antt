@@ -1,12 +1,11 @@
 -- Answers that are refusals and answers that are not.
-use Rattle.std.proofs.Common.{◌≡◌, ℕ, ◌<◌, ◌≤◌, eqb, ltb, List, [], ◌∷◌, ◌++◌, Some, None, Ok, Err, Option, sym, refl, arith}
-use Rattle.std.proofs.lemmas.Bool.{eqb-false, lt-ltb, le-ltb, cond-true, cond-false}
+use Rattle.std.proofs.Common.{◌≡◌, ℕ, eqb, List, [], ◌∷◌, ◌++◌, Some, None, Ok, Err, Option, sym, refl, arith}
+use Rattle.std.proofs.lemmas.Bool.{eqb-false}
 use Rattle.manager.specs.Answers.{answer}
 use Rattle.manager.specs.Meaning.{Meaning}
 use Rattle.manager.specs.Refusals.{tried}
 use Rattle.manager.specs.declared.refusal.Refusal.{Refusal}
-use Rattle.manager.specs.declared.refusal.Refusal.TheVariants.{RollFull, ShortWaitList}
-use Rattle.history.specs.Calls.{waits_refusal}
+use Rattle.manager.specs.declared.refusal.Refusal.TheVariants.{RollFull}
 use Rattle.history.proofs.Orders.{not_due, tried_last}
 
 pub ok_not_err : {A B : Type 0} (a : A) (b : B) → Ok a ≡ Err b → ⊥
@@ -26,14 +25,9 @@ pub refusing : {A : Type 0} (o : Option Refusal) (a : A) (r : Refusal) → Err r
 refusing None a r e = absurd (ok_not_err a r (sym e))
 refusing (Some x) a r e = cc
 
-pub short_list : (m : Meaning) (places : ℕ) → places < m.sites → waits_refusal m places ≡ Some ShortWaitList
-short_list m places h = cond-true (ltb places m.sites) (Some ShortWaitList) None (lt-ltb places m.sites h)
-
-pub long_list : (m : Meaning) (places : ℕ) → m.sites ≤ places → waits_refusal m places ≡ None
-long_list m places h = cond-false (ltb places m.sites) (Some ShortWaitList) None (le-ltb places m.sites h)
-
 -- A roll that does not refuse an ask or a step has room.
-pub has_room : (rs : List Refusal) (m : Meaning) (k room : ℕ) → tried (rs ++ (RollFull ∷ [])) m k room ≡ None → room ≡ 0 → ⊥
-has_room rs m k room none full =
+pub has_room : (rs : List Refusal) (m : Meaning) (k room : ℕ) → Ok (tt {0}) ≡ answer (tried (rs ++ (RollFull ∷ [])) m k room) (tt {0}) → room ≡ 0 → ⊥
+has_room rs m k room may full =
+    let none = accepted (tried (rs ++ (RollFull ∷ [])) m k room) (tt {0}) (tt {0}) may in
     let last = (not_due (eqb room 0) RollFull None (tried_last rs (RollFull ∷ []) m k room none)).0 in
     eqb-false room 0 last full

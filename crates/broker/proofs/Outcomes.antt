@@ -1,115 +1,116 @@
 -- The two ways that a call ends: refused, with everything as found, or carried out.
-use Rattle.std.proofs.Common.{◌≡◌, ℕ, ◌+◌, ◌-◌, ◌<◌, ◌≤◌, cond, List, [], ◌∷◌, length, get_or, set, Some, None, Ok, Err, Option, Result, sym, refl, ap, ◌∙◌, subst, inl, inr, arith, get_or-set_other, get_or-set_same}
+use Rattle.std.proofs.Common.{◌≡◌, ℕ, ◌+◌, ◌-◌, ◌<◌, Bool, cond, List, [], ◌∷◌, length, get_or, set, Some}
+use Rattle.std.proofs.Common.{None, Ok, Err, Option, Result, sym, refl, ap, ◌∙◌, subst, inl, inr, arith, get_or-set_other, get_or-set_same}
 use mathlib.Core.Path.{fun_ext}
-use Rattle.std.proofs.lemmas.Bool.{cases_eq, cond-true}
+use Rattle.std.proofs.lemmas.Bool.{cases_eq}
+use Rattle.std.proofs.lemmas.Result.{err_from_is_err_and}
+use Rattle.std.specs.Result.{IsErrAnd}
 use Rattle.counting.specs.Sums.{upd}
 use Rattle.counting.proofs.Sums.{upd_same, upd_other}
 use Rattle.manager.specs.Answers.{answer, Call as Answered}
 use Rattle.manager.specs.Kinds.{Kind, Obeys}
-use Rattle.manager.specs.Meaning.{limit, is_holding}
+use Rattle.manager.specs.Meaning.{is_holding}
 use Rattle.manager.specs.Refusals.{refused, ask_order, free_order, step_order}
 use Rattle.manager.specs.declared.status.Status.{Status}
-use Rattle.manager.specs.declared.status.Status.TheVariants.{Idle, Waiting, Holding}
 use Rattle.manager.specs.declared.refusal.Refusal.{Refusal}
 use Rattle.manager.specs.declared.refusal.Refusal.TheVariants.{RollFull}
+use Rattle.manager.proofs.Accepted.{accepted_ask}
 use Rattle.history.specs.Calls.{Call, Done, Does, ask, free, step, refusal, ask_refusal, step_refusal}
 use Rattle.history.specs.Calls.Does.{is_refused, asks, frees, steps}
 use Rattle.history.specs.Histories.{Performed}
-use Rattle.history.specs.Records.{Records, Well, under, grant, after_ask, after_free, after_step, grants_by_ask, grants_by_step}
+use Rattle.history.specs.Records.{Records, Well, under, grant, after_ask, after_free, after_step, grants_by_step}
 use Rattle.history.specs.declared.Grant.{Grant}
 use Rattle.history.proofs.Every.{performed}
 use Rattle.history.proofs.Orders.{tried_front}
 use Rattle.broker.specs.Outcome.{Outcome}
-use Rattle.broker.specs.Reading.{records_of, keeping, one_more}
+use Rattle.broker.specs.Counting.{Counts}
+use Rattle.broker.specs.Reading.{records_of}
 use Rattle.broker.specs.declared.state.Broker.{Broker}
-use Rattle.broker.proofs.Answering.{ok_not_err, accepted, accepted_value}
+use Rattle.broker.specs.declared.totals.Totals.{Totals}
+use Rattle.broker.proofs.Answering.{ok_not_err, accepted, accepted_value, refusing}
 
--- The broker with another manager.
-abbrev pub over : {S : Type 0} → Broker S → S → Broker S
-over b m = record { manager = m; asks = b.asks; frees = b.frees; steps = b.steps; asked = b.asked }
+-- The broker over another manager, with other totals.
+abbrev pub over : {S : Type 0} → S → Totals → Broker S
+over m t = record { manager = m; totals = t }
 
-module _ {S : Type 0} (kind : Kind S) (laws : Obeys kind) where
-  pub refused_outcome : {A : Type 0} (b : Broker S) (call : Call) (c : Broker S) (value : A) (r : Result A Refusal) (e : Refusal) → Well kind (records_of b) → r ≡ Err e → refusal (under kind (records_of b)) call ≡ Some e → c ≡ b → Outcome kind b call [] c value r
-  refused_outcome b call c value r e w failed due same = record {
-    answers = failed ∙ sym (ap (λ (o : Option Refusal). answer o value) due);
-    performed = subst (λ (x : Broker S). Performed kind (records_of b) call [] (records_of x)) (sym same) (performed kind laws w (is_refused e due));
-    leaves = λ _ _. (same, refl);
-  }
+-- The steps at each ask, after one more ask.
+asked_once_more : (xs : List ℕ) (i v : ℕ) → i < length xs → (j : ℕ) → get_or (set xs i v) j 0 ≡ upd (λ k. get_or xs k 0) i v j
+asked_once_more xs i v h j = elim (cases_eq j i) [
+  | inl same ↦
+      ap (λ (k : ℕ). get_or (set xs i v) k 0) same ∙ get_or-set_same xs i v 0 h ∙
+      sym (ap (upd (λ k. get_or xs k 0) i v) same ∙ upd_same (λ k. get_or xs k 0) i v)
+  | inr other ↦ get_or-set_other xs i j v 0 other ∙ sym (upd_other (λ k. get_or xs k 0) i v j other)
+]
 
-  pub carried_outcome : {A : Type 0} (b : Broker S) (call : Call) (grants : List Grant) (c : Broker S) (value : A) (r : Result A Refusal) {d : Done} (after : Records S) → Well kind (records_of b) → r ≡ Ok value → refusal (under kind (records_of b)) call ≡ None → Does kind (records_of b) call d grants after → records_of c ≡ after → Outcome kind b call grants c value r
-  carried_outcome b call grants c value r after w ok none does read = record {
+-- Calls on the broker b.
+module _ {S : Type 0} (kind : Kind S) (laws : Obeys kind) (b : Broker S) where
+  -- A call that a `?` ends with the refusal that is due.
+  pub refused_outcome : {A : Type 0} {value : A} {r : Result A Refusal} {e : Refusal} (call : Call) → Well kind (records_of b) →
+      Err e ≡ answer (refusal (under kind (records_of b)) call) (tt {0}) → IsErrAnd r (λ y. y ≡ e) → Outcome kind b call [] b value r
+  refused_outcome {value = value} {r} {e} call w refused handed =
+      let due = refusing (refusal (under kind (records_of b)) call) (tt {0}) e refused in
+      let (y, failed, same) = err_from_is_err_and r handed in
+      record {
+        answers = failed ∙ ap Err same ∙ sym (ap (λ (o : Option Refusal). answer o value) due);
+        performed = performed kind laws w (is_refused e due);
+        leaves = λ _ _. (refl, refl);
+      }
+
+  carried_outcome : {A : Type 0} {grants : List Grant} {value : A} {r : Result A Refusal} {d : Done} {after : Records S} (call : Call) (c : Broker S) →
+      Well kind (records_of b) → r ≡ Ok value → refusal (under kind (records_of b)) call ≡ None → Does kind (records_of b) call d grants after →
+      records_of c ≡ after → Outcome kind b call grants c value r
+  carried_outcome {grants = grants} {value} call c w ok none does read = record {
     answers = ok ∙ sym (ap (λ (o : Option Refusal). answer o value) none);
     performed = subst (λ (x : Records S). Performed kind (records_of b) call grants x) (sym read) (performed kind laws w does);
     leaves = λ e failed. absurd (ok_not_err value e (sym ok ∙ failed));
   }
 
-  -- The totals are far from the end of their range.
-  pub totals_fit : (b : Records S) → Well kind b → b.asks + b.frees + b.steps ≤ limit
-  totals_fit b w = omega (arith, w.counted, (laws.bounded b.manager).age)
+  -- Carried out, they leave the manager m and the totals t.
+  module _ (m : S) (t : Totals) where
+    -- An ask, whose site then holds or not.
+    pub asked_outcome : {i room : ℕ} {status : Status} (holds : Bool) → Well kind (records_of b) →
+        Ok (tt {0}) ≡ answer (ask_refusal (kind.meaning b.manager) i room) (tt {0}) →
+        Answered (refused ask_order (kind.meaning b.manager) i) (kind.asks b.manager i m) ((kind.meaning m).status i) b.manager m (Ok status) →
+        length b.totals.asked ≡ 64 → Counts t (b.totals.asks + 1) b.totals.frees b.totals.steps (set b.totals.asked i b.totals.steps) →
+        holds ≡ is_holding status → Outcome kind b (ask i room) (cond holds (grant i 0 ∷ []) []) (over m t) ((kind.meaning m).status i) (Ok status)
+    asked_outcome {i} {room} {status} holds w may called wide counts told =
+        let before = kind.meaning b.manager in
+        let ok = accepted (ask_refusal before i room) (tt {0}) (tt {0}) may in
+        let none = tried_front ask_order (RollFull ∷ []) before i room ok in
+        let shown = accepted_value (refused ask_order before i) ((kind.meaning m).status i) status called.answers in
+        let within : i < length b.totals.asked = omega (arith, (accepted_ask before i none).0, wide, (laws.bounded b.manager).most) in
+        let asked = λ (j : ℕ). ap (λ (xs : List ℕ). get_or xs j 0) counts.asked ∙ asked_once_more b.totals.asked i b.totals.steps within j in
+        let read : records_of (over m t) ≡ after_ask kind (records_of b) i m = λ k.
+        record { manager = m; asks = counts.asks k; frees = counts.frees k; steps = counts.steps k; asked = fun_ext asked k } in
+        let granted : holds ≡ is_holding ((kind.meaning m).status i) = told ∙ ap is_holding shown in
+        rw granted (carried_outcome (ask i room) (over m t) w (ap Ok shown) ok (asks i room m ok (called.does none)) read)
 
-  pub more_fits : (n : ℕ) → n ≤ limit → one_more n ≡ n + 1
-  more_fits n h = omega arith
+    pub freed_outcome : {i : ℕ} → Well kind (records_of b) →
+        Answered (refused free_order (kind.meaning b.manager) i) (kind.frees b.manager i m) (tt {0}) b.manager m (Ok (tt {0})) →
+        Counts t b.totals.asks (b.totals.frees + 1) b.totals.steps b.totals.asked → Outcome kind b (free i) [] (over m t) (tt {0}) (Ok (tt {0}))
+    freed_outcome {i} w called counts =
+        let ok = accepted (refused free_order (kind.meaning b.manager) i) (tt {0}) (tt {0}) called.answers in
+        let read : records_of (over m t) ≡ after_free kind (records_of b) m = λ k.
+        record { manager = m; asks = counts.asks k; frees = counts.frees k; steps = counts.steps k; asked = λ j. get_or (counts.asked k) j 0 } in
+        carried_outcome (free i) (over m t) w refl ok (frees i m ok (called.does ok)) read
 
-  -- The steps at each ask, after one more ask.
-  asked_once_more : (xs : List ℕ) (i v : ℕ) → i < length xs → (j : ℕ) → get_or (set xs i v) j 0 ≡ upd (λ k. get_or xs k 0) i v j
-  asked_once_more xs i v h j = elim (cases_eq j i) [
-    | inl same ↦
-        ap (λ (k : ℕ). get_or (set xs i v) k 0) same ∙ get_or-set_same xs i v 0 h ∙ sym (ap (upd (λ k. get_or xs k 0) i v) same ∙ upd_same (λ k. get_or xs k 0) i v)
-    | inr other ↦ get_or-set_other xs i j v 0 other ∙ sym (upd_other (λ k. get_or xs k 0) i v j other)
-  ]
-
-  -- The broker b, over the manager m since, with one more ask noted.
-  asked_read : (b c : Broker S) (i : ℕ) (m : S) → Well kind (records_of b) → i < (kind.meaning b.manager).sites → length b.asked ≡ 64 → c ≡ keeping (over b m) (one_more b.asks) b.frees b.steps (set b.asked i b.steps) → records_of c ≡ after_ask kind (records_of b) i m
-  asked_read b c i m w site wide noted =
-      let within : i < length b.asked = omega (arith, site, wide, (laws.bounded b.manager).most) in
-      let more = more_fits b.asks (omega (arith, totals_fit (records_of b) w)) in
-      ap records_of noted ∙ (λ k. record { manager = m; asks = more k; frees = b.frees; steps = b.steps; asked = fun_ext (asked_once_more b.asked i b.steps within) k })
-
-  freed_read : (b c : Broker S) (m : S) → Well kind (records_of b) → c ≡ keeping (over b m) b.asks (one_more b.frees) b.steps b.asked → records_of c ≡ after_free kind (records_of b) m
-  freed_read b c m w noted =
-      let more = more_fits b.frees (omega (arith, totals_fit (records_of b) w)) in
-      ap records_of noted ∙ (λ k. record { manager = m; asks = b.asks; frees = more k; steps = b.steps; asked = (records_of b).asked })
-
-  stepped_read : (b c : Broker S) (m : S) → Well kind (records_of b) → c ≡ keeping (over b m) b.asks b.frees (one_more b.steps) b.asked → records_of c ≡ after_step kind (records_of b) m
-  stepped_read b c m w noted =
-      let more = more_fits b.steps (omega (arith, totals_fit (records_of b) w)) in
-      ap records_of noted ∙ (λ k. record { manager = m; asks = b.asks; frees = b.frees; steps = more k; asked = (records_of b).asked })
-
-  pub asked_outcome : (b c : Broker S) (i room : ℕ) (m : S) (status : Status) → Well kind (records_of b) → ask_refusal (kind.meaning b.manager) i room ≡ None → Answered (refused ask_order (kind.meaning b.manager) i) (kind.asks b.manager i m) ((kind.meaning m).status i) b.manager m (Ok status) → i < (kind.meaning b.manager).sites → length b.asked ≡ 64 → c ≡ keeping (over b m) (one_more b.asks) b.frees b.steps (set b.asked i b.steps) → Outcome kind b (ask i room) (grants_by_ask kind i m) c ((kind.meaning c.manager).status i) (Ok status)
-  asked_outcome b c i room m status w ok called site wide noted =
-      let before = kind.meaning b.manager in
-      let none = tried_front ask_order (RollFull ∷ []) before i room ok in
-      let shown = accepted_value (refused ask_order before i) ((kind.meaning m).status i) status called.answers in
-      let same = ap (λ (x : Broker S). (kind.meaning x.manager).status i) noted in
-      carried_outcome b (ask i room) (grants_by_ask kind i m) c ((kind.meaning c.manager).status i) (Ok status) (after_ask kind (records_of b) i m) w (ap Ok (shown ∙ sym same)) ok (asks i room m ok (called.does none)) (asked_read b c i m w site wide noted)
-
-  pub freed_outcome : (b c : Broker S) (i : ℕ) (m : S) → Well kind (records_of b) → Answered (refused free_order (kind.meaning b.manager) i) (kind.frees b.manager i m) (tt {0}) b.manager m (Ok (tt {0})) → c ≡ keeping (over b m) b.asks (one_more b.frees) b.steps b.asked → Outcome kind b (free i) [] c (tt {0}) (Ok (tt {0}))
-  freed_outcome b c i m w called noted =
-      let ok = accepted (refused free_order (kind.meaning b.manager) i) (tt {0}) (tt {0}) called.answers in
-      carried_outcome b (free i) [] c (tt {0}) (Ok (tt {0})) (after_free kind (records_of b) m) w refl ok (frees i m ok (called.does ok)) (freed_read b c m w noted)
-
-  pub granted_at_once : (i : ℕ) (m : S) → (kind.meaning m).status i ≡ Holding → grants_by_ask kind i m ≡ grant i 0 ∷ []
-  granted_at_once i m holds = cond-true (is_holding ((kind.meaning m).status i)) (grant i 0 ∷ []) [] (ap is_holding holds)
-
-  pub not_granted : (i : ℕ) (m : S) → ((kind.meaning m).status i ≡ Holding → ⊥) → grants_by_ask kind i m ≡ []
-  not_granted i m waits = go ((kind.meaning m).status i) waits
-    where
-      go : (st : Status) → (st ≡ Holding → ⊥) → cond (is_holding st) (grant i 0 ∷ []) [] ≡ []
-      go Idle f = refl
-      go Waiting f = refl
-      go Holding f = absurd (f refl)
-
-  pub stepped_outcome : (b c : Broker S) (k room : ℕ) (told granted : Option ℕ) (m : S) → told ≡ granted → Well kind (records_of b) → step_refusal (kind.meaning b.manager) k room ≡ None → (x : Option ℕ) × Answered (refused step_order (kind.meaning b.manager) k) (kind.steps b.manager k x m) x b.manager m (Ok told) → c ≡ keeping (over b m) b.asks b.frees (one_more b.steps) b.asked → Outcome kind b (step k room) (grants_by_step kind (records_of b) granted) c granted (Ok granted)
-  stepped_outcome b c k room told granted m same w ok (x, called) noted =
-      let before = kind.meaning b.manager in
-      let none = tried_front step_order (RollFull ∷ []) before k room ok in
-      let known = accepted_value (refused step_order before k) x told called.answers in
-      let did = subst (λ (y : Option ℕ). kind.steps b.manager k y m) (sym known ∙ same) (called.does none) in
-      carried_outcome b (step k room) (grants_by_step kind (records_of b) granted) c granted (Ok granted) (after_step kind (records_of b) m) w refl ok (steps k room granted m ok did) (stepped_read b c m w noted)
+    -- A step, with what it granted.
+    pub stepped_outcome : {k room : ℕ} {told : Option ℕ} (granted : Option ℕ) → told ≡ granted → Well kind (records_of b) →
+        Ok (tt {0}) ≡ answer (step_refusal (kind.meaning b.manager) k room) (tt {0}) →
+        (x : Option ℕ) × Answered (refused step_order (kind.meaning b.manager) k) (kind.steps b.manager k x m) x b.manager m (Ok told) →
+        Counts t b.totals.asks b.totals.frees (b.totals.steps + 1) b.totals.asked →
+        Outcome kind b (step k room) (grants_by_step kind (records_of b) granted) (over m t) granted (Ok granted)
+    stepped_outcome {k} {room} {told} granted same w may (x, called) counts =
+        let before = kind.meaning b.manager in
+        let ok = accepted (step_refusal before k room) (tt {0}) (tt {0}) may in
+        let none = tried_front step_order (RollFull ∷ []) before k room ok in
+        let known = accepted_value (refused step_order before k) x told called.answers in
+        let did = subst (λ (y : Option ℕ). kind.steps b.manager k y m) (sym known ∙ same) (called.does none) in
+        let read : records_of (over m t) ≡ after_step kind (records_of b) m = λ j.
+        record { manager = m; asks = counts.asks j; frees = counts.frees j; steps = counts.steps j; asked = λ i. get_or (counts.asked j) i 0 } in
+        carried_outcome (step k room) (over m t) w refl ok (steps k room granted m ok did) read
 
   -- The grant that a step adds, by the steps that the broker counts.
-  pub granted_by_step : (b c : Broker S) (waited site : ℕ) (m : S) → Well kind (records_of b) → c ≡ keeping (over b m) b.asks b.frees (one_more b.steps) b.asked → waited ≡ c.steps - get_or c.asked site 0 → grants_by_step kind (records_of b) (Some site) ≡ grant site waited ∷ []
-  granted_by_step b c waited site m w noted since =
-      let read = stepped_read b c m w noted in
-      let same : b.steps + 1 - get_or b.asked site 0 ≡ waited = sym (since ∙ ap (λ (x : Records S). x.steps - x.asked site) read) in
-      ap (λ (n : ℕ). grant site n ∷ []) same
+  pub granted_by_step : {t : Totals} {waited site : ℕ} → Counts t b.totals.asks b.totals.frees (b.totals.steps + 1) b.totals.asked →
+      waited ≡ t.steps - get_or t.asked site 0 → grants_by_step kind (records_of b) (Some site) ≡ grant site waited ∷ []
+  granted_by_step {t} {waited} {site} counts since = ap (λ (n : ℕ). grant site n ∷ []) (sym (rw (counts.steps, counts.asked) at since))

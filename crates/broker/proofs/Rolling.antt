@@ -10,16 +10,16 @@ module _ {T : Type 0} where
   pub rolled_none : (a : Roll T) → Rolled a a []
   rolled_none a = record { contents = sym (append-nil (written a)); len = omega arith; memory = refl; lender = refl }
 
-  pub not_full : (a : Roll T) → (room_of a ≡ 0 → ⊥) → is_full a ≡ false
-  not_full a h = ne_eqb (room_of a) 0 h
-
-  pub rolled_push : (a b : Roll T) (x : T) → is_full a ≡ false → written b ≡ pushed_contents a x → b.len ≡ pushed_len a → b.items.now ≡ pushed_memory a x → b.items.ghost_name ≡ a.items.ghost_name → Rolled a b (x ∷ [])
-  rolled_push a b x free p q r s = record {
-    contents = p ∙ cond-false (is_full a) (written a) (written a ++ (x ∷ [])) free;
-    len = q ∙ cond-false (is_full a) a.len (a.len + 1) free;
-    memory = r ∙ cond-false (is_full a) a.items.now (set a.items.now a.len x) free;
-    lender = s;
-  }
+  pub rolled_push : (a b : Roll T) (x : T) → (room_of a ≡ 0 → ⊥) → written b ≡ pushed_contents a x → b.len ≡ pushed_len a →
+      b.items.now ≡ pushed_memory a x → b.items.ghost_name ≡ a.items.ghost_name → Rolled a b (x ∷ [])
+  rolled_push a b x some p q r s =
+      let free : is_full a ≡ false = ne_eqb (room_of a) 0 some in
+      record {
+        contents = p ∙ cond-false (is_full a) (written a) (written a ++ (x ∷ [])) free;
+        len = q ∙ cond-false (is_full a) a.len (a.len + 1) free;
+        memory = r ∙ cond-false (is_full a) a.items.now (set a.items.now a.len x) free;
+        lender = s;
+      }
 
   laid_append : (memory : List T) (k : ℕ) (xs ys : List T) → laid (laid memory k xs) (k + length xs) ys ≡ laid memory k (xs ++ ys)
   laid_append memory k [] ys = ap (λ (n : ℕ). laid memory n ys) (omega arith)

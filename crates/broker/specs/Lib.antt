@@ -1,3 +1,4 @@
+pub mod Counting
 pub mod Outcome
 pub mod Reading
 pub mod Rolling

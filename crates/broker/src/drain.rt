@@ -19,25 +19,23 @@ impl<M: Manager> Broker<M> {
     pub fn drain(&mut self, bound: u64, roll: &mut Roll<'_, Grant>) -> DrainReport
         ensures is_one_call { Well M.Manager (records_of self.old) → (grants : List Grant) × Drained M.Manager (records_of self.old) bound (room_of roll.old) result.steps grants result.stopped (records_of self.new) × Performed M.Manager (records_of self.old) (drain_call bound (room_of roll.old)) grants (records_of self.new) × Rolled roll.old roll.new grants }
     {
-        let mut steps = 0;
-        while self.manager.underway() > 0 {
-            if steps == bound {
-                return DrainReport {
-                    steps,
-                    stopped: Some(Refusal::LimitReached),
-                };
+        for steps in 0..bound {
+            if self.manager.underway() == 0 {
+                return report(steps, None);
             }
             if let Err(refusal) = self.step(0, roll) {
-                return DrainReport {
-                    steps,
-                    stopped: Some(refusal),
-                };
+                return report(steps, Some(refusal));
             }
-            steps += 1;
         }
-        DrainReport {
-            steps,
-            stopped: None,
-        }
+        let busy = self.manager.underway() > 0;
+        report(bound, busy.then_some(Refusal::LimitReached))
     }
+}
+
+// So many steps, stopped for this reason, if for any.
+fn report(steps: u64, stopped: Option<Refusal>) -> DrainReport
+    ensures has_the_steps { result.steps ≡ steps }
+    ensures has_the_reason { result.stopped ≡ stopped }
+{
+    DrainReport { steps, stopped }
 }

@@ -7,4 +7,5 @@ mod drain;
 mod making;
 mod questions;
 pub mod state;
+mod totals;
 mod waits;

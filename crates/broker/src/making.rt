@@ -1,11 +1,12 @@
 // How a broker is made and started. The promise about every history stands here, on the calls that begin one.
-ghost use Rattle.std.specs.Prelude.{◌≡◌, ◌-◌, replicate, Ok, Err};
+ghost use Rattle.std.specs.Prelude.{◌≡◌, ◌-◌, Ok, Err};
 ghost use Rattle.manager.specs.Answers.{answer};
 ghost use Rattle.manager.specs.Refusals.{refused, site_order};
 ghost use Rattle.history.specs.Promise.{Begun};
-ghost use Rattle.broker.specs.Reading.{records_of, keeping};
+ghost use Rattle.broker.specs.Reading.{records_of};
 
 use crate::state::Broker;
+use crate::totals::Totals;
 use manager::interface::Manager;
 use manager::refusal::Refusal;
 
@@ -17,13 +18,8 @@ impl<M: Manager> Broker<M> {
         let mut manager = manager;
         let last = last_of(&manager);
         let _ = manager.park(last);
-        Broker {
-            manager,
-            asks: 0,
-            frees: 0,
-            steps: 0,
-            asked: [0; 64],
-        }
+        let totals = Totals::new();
+        Broker { manager, totals }
     }
 
     // Parks the manager at the site and begins anew.
@@ -33,18 +29,8 @@ impl<M: Manager> Broker<M> {
         ensures refused_leaves_all { (e : Refusal) → result ≡ Err e → self.new ≡ self.old }
     {
         self.manager.park(site)?;
-        self.forget();
+        self.totals = Totals::new();
         Ok(())
-    }
-
-    // Sets the totals to 0, and forgets when each site asked.
-    fn forget(&mut self)
-        ensures { self.new ≡ keeping self.old 0 0 0 (replicate 64 0) }
-    {
-        self.asks = 0;
-        self.frees = 0;
-        self.steps = 0;
-        self.asked = [0; 64];
     }
 }
 

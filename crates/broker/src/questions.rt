@@ -46,22 +46,22 @@ impl<M: Manager> Broker<M> {
 
     // The asks carried out since start.
     pub fn asks(&self) -> u64
-        ensures shows_asks { result ≡ self.now.asks }
+        ensures shows_asks { result ≡ self.now.totals.asks }
     {
-        self.asks
+        self.totals.asks
     }
 
     // The frees carried out since start.
     pub fn frees(&self) -> u64
-        ensures shows_frees { result ≡ self.now.frees }
+        ensures shows_frees { result ≡ self.now.totals.frees }
     {
-        self.frees
+        self.totals.frees
     }
 
     // The steps carried out since start, those of drains included.
     pub fn steps(&self) -> u64
-        ensures shows_steps { result ≡ self.now.steps }
+        ensures shows_steps { result ≡ self.now.totals.steps }
     {
-        self.steps
+        self.totals.steps
     }
 }

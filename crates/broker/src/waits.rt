@@ -1,5 +1,5 @@
 // How long each site has waited: nothing is counted at a step, for a wait is the steps now less the steps at the ask.
-ghost use Rattle.std.specs.Prelude.{◌≡◌, ℕ, ◌-◌, ◌<◌, [], length, Ok, Err, slice_index};
+ghost use Rattle.std.specs.Prelude.{◌≡◌, [], length, Ok, Err};
 ghost use Rattle.manager.specs.Answers.{answer};
 ghost use Rattle.history.specs.Calls.{write_waits, waits_refusal};
 ghost use Rattle.history.specs.Histories.{Performed};
@@ -18,7 +18,7 @@ impl<M: Manager> Broker<M> {
         ensures shows_wait { result ≡ wait_shown M.Manager (records_of self.now) site }
     {
         match self.manager.status(site)? {
-            Status::Waiting => Ok(self.since_ask(site)),
+            Status::Waiting => Ok(self.totals.since_ask(site)),
             Status::Idle | Status::Holding => Ok(0),
         }
     }
@@ -34,36 +34,9 @@ impl<M: Manager> Broker<M> {
         if list.len() < sites {
             return Err(Refusal::ShortWaitList);
         }
-        for site in 0..sites {
-            list[site] = self.wait_of(site);
+        for (site, place) in list[..sites].iter_mut().enumerate() {
+            *place = self.wait(site)?;
         }
         Ok(())
-    }
-
-    // The wait of a number that is a site.
-    fn wait_of(&self, site: usize) -> u64
-        ensures { site < (M.Manager.meaning self.now.manager).sites → result ≡ wait M.Manager (records_of self.now) site }
-    {
-        match self.manager.status(site) {
-            Ok(Status::Waiting) => self.since_ask(site),
-            _ => 0,
-        }
-    }
-
-    // The steps carried out since the site last asked.
-    pub(crate) fn since_ask(&self, site: usize) -> u64
-        ensures { result ≡ self.now.steps - slice_index self.now.asked site }
-    {
-        self.steps.saturating_sub(self.steps_at_ask(site))
-    }
-
-    // The total of steps when the site last asked.
-    fn steps_at_ask(&self, site: usize) -> u64
-        ensures { result ≡ slice_index self.now.asked site }
-    {
-        match self.asked.get(site) {
-            Some(steps) => *steps,
-            None => 0,
-        }
     }
 }

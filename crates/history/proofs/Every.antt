@@ -1,13 +1,13 @@
 -- Every history keeps the promise: the induction over its calls.
-use Rattle.std.proofs.Common.{◌≡◌, ℕ, ◌+◌, ◌*◌, ◌<◌, ◌≤◌, Bool, true, false, cond, leb, List, Some, None, Ok, Option, sym, refl, ap, ◌∙◌, subst, mul-one, mul-add, arith}
-use Rattle.std.proofs.lemmas.Bool.{leb-false}
-use Rattle.manager.specs.Answers.{answer, status_shown, holder_shown}
+use Rattle.std.proofs.Common.{◌≡◌, ℕ, ◌+◌, ◌*◌, ◌<◌, ◌≤◌, Bool, false, List, None, Ok, Option, sym, refl, ap, ◌∙◌, subst, mul-one, mul-add, arith}
+use Rattle.std.proofs.lemmas.Bool.{both_ways}
+use Rattle.std.proofs.lemmas.Bool.Decides.{nat_tests}
+use Rattle.manager.specs.Answers.{status_shown, holder_shown}
 use Rattle.manager.specs.Effects.{Parked}
 use Rattle.manager.specs.Kinds.{Kind, Obeys}
 use Rattle.manager.specs.Meaning.{Meaning, is_holding}
 use Rattle.manager.specs.Refusals.{refused, site_order}
 use Rattle.manager.proofs.First.{Finds, first_finds}
-use Rattle.manager.specs.declared.refusal.Refusal.TheVariants.{NoSite}
 use Rattle.manager.specs.declared.status.Status.{Status}
 use Rattle.manager.specs.declared.status.Status.TheVariants.{Waiting, Holding}
 use Rattle.history.specs.Calls.{Call, Done, done, ◌and◌, Does}
@@ -20,11 +20,7 @@ use Rattle.history.proofs.Along.{Moved, moves}
 
 -- What is shown of a site's status is its status, and the site is one.
 pub shown_status : (m : Meaning) (i : ℕ) (st : Status) → status_shown m i ≡ Ok st → (i < m.sites) × (m.status i ≡ st)
-shown_status m i st e = go (leb m.sites i) refl e
-  where
-    go : (b : Bool) → leb m.sites i ≡ b → answer (cond b (Some NoSite) None) (m.status i) ≡ Ok st → (i < m.sites) × (m.status i ≡ st)
-    go true p e = absurd (let z : ◌≡◌ {A = ℕ} 0 1 = cc in omega arith)
-    go false p e = (leb-false m.sites i p, cc)
+shown_status m i st e = (grind (arith, nat_tests), grind (arith, nat_tests))
 
 positive : (n : ℕ) → (n ≡ 0 → ⊥) → 0 < n
 positive n some = omega arith
@@ -34,7 +30,7 @@ nobody : (m : Meaning) (i : ℕ) → holder_shown m ≡ None → i < m.sites →
 nobody m i none within holds =
     let test : ℕ → Bool = λ k. is_holding (m.status k) in
     let free : test i ≡ false = subst (λ (o : Option ℕ). Finds test m.sites o) none (first_finds test m.sites) i within in
-    let z : ◌≡◌ {A = ℕ} 0 1 = cc (ap is_holding holds) in omega arith
+    both_ways (test i) free (ap is_holding holds)
 
 module _ {S : Type 0} (kind : Kind S) (laws : Obeys kind) (a : Records S) where
   -- What the induction carries along.

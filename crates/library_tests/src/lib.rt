@@ -6,6 +6,8 @@ mod gateways;
 #[cfg(test)]
 mod hand_over;
 #[cfg(test)]
+mod islands;
+#[cfg(test)]
 mod refusals;
 #[cfg(test)]
 mod replay_lines;
@@ -19,6 +21,8 @@ mod rolls;
 mod sizes;
 #[cfg(test)]
 mod suzuki_kasami_runs;
+#[cfg(test)]
+mod tables;
 #[cfg(test)]
 mod ties;
 #[cfg(test)]

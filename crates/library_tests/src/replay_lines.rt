@@ -1,6 +1,7 @@
 // The lines of a replay, written at the front of output that the caller lends.
 use lines::refusal::Refusal;
 use lines::{write_fault, write_grant, write_refusal, write_totals};
+use std::test::Fail;
 
 #[test]
 fn each_line_stands_at_the_front_and_later_bytes_stay(rt: HostRuntime) {
@@ -28,4 +29,16 @@ fn the_longest_line_is_written(rt: HostRuntime) {
     let most = 18_446_744_073_709_551_615;
     assert_eq!(rt; write_totals(&mut out, 'T', 0, 0, most, most, most), Ok(69));
     assert!(rt; out[67] == b'5' && out[68] == b'\n' && out[69] == b'.');
+}
+
+#[test]
+fn a_refusal_is_shown_in_words(rt: HostRuntime) -> Result<(), Fail> {
+    let heap = rt.alloc();
+    let refusal = Refusal::ShortOutput;
+    assert_eq!(rt;
+        format!(in heap; "{refusal}")?.as_str(),
+        "the output is shorter than the line"
+    );
+    assert_eq!(rt; format!(in heap; "{refusal:?}")?.as_str(), "ShortOutput");
+    Ok(())
 }

@@ -1,7 +1,8 @@
-// What the programs may share: a number of their arguments, an ask, and the report of a run.
+// What the programs share: a number of their arguments, what a run does, and its report.
 use broker::state::Broker;
 use history::Grant;
-use programs::{PrintedGrant, Report, argument, ask_unless_served, number_within, print_run};
+use manager::refusal::Refusal;
+use programs::{PrintedGrant, Report, Run, argument, number_within};
 use roll::list::Roll;
 use std::test::Fail;
 use suzuki_kasami::state::SuzukiKasami;
@@ -20,15 +21,30 @@ fn a_number_of_an_argument_is_within_its_bounds(rt: HostRuntime) -> Result<(), F
 #[test]
 fn a_site_is_asked_for_until_it_has_been_served(rt: HostRuntime) {
     let mut memory = [Grant { site: 0, waited: 0 }; 4];
-    let mut roll = Roll::new(&mut memory);
-    let mut broker = Broker::new(SuzukiKasami::new(3));
-    ask_unless_served(&mut broker, &mut roll, 0, 0);
-    assert_eq!(rt; broker.asks(), 0);
-    ask_unless_served(&mut broker, &mut roll, 0, 1);
-    assert_eq!(rt; broker.asks(), 1);
-    assert_eq!(rt; roll.push(Grant { site: 1, waited: 2 }), Ok(()));
-    ask_unless_served(&mut broker, &mut roll, 1, 1);
-    assert_eq!(rt; broker.asks(), 1);
+    let mut run = run_of_three_sites(&mut memory);
+    run.ask_unless_served(0, 0);
+    assert_eq!(rt; run.broker.asks(), 0);
+    run.ask_unless_served(0, 1);
+    assert_eq!(rt; run.broker.asks(), 1);
+    assert_eq!(rt; run.grants.push(Grant { site: 1, waited: 2 }), Ok(()));
+    run.ask_unless_served(1, 1);
+    assert_eq!(rt; run.broker.asks(), 1);
+}
+
+// Sites 0 and 1 wait until site 2 frees; the token then goes to the one that is known to have asked.
+#[test]
+fn a_run_asks_steps_frees_and_drains(rt: HostRuntime) {
+    let mut memory = [Grant { site: 0, waited: 0 }; 4];
+    let mut run = run_of_three_sites(&mut memory);
+    run.ask_all(1);
+    assert_eq!(rt; run.broker.asks(), 2);
+    assert_eq!(rt; run.step(0), Ok(None));
+    assert_eq!(rt; run.step(9), Err(Refusal::NoThing));
+    assert_eq!(rt; run.free_holder(), Some(2));
+    assert_eq!(rt; run.free_holder(), None);
+    assert_eq!(rt; run.drain(9).stopped, None);
+    assert_eq!(rt; run.broker.frees(), 1);
+    assert_eq!(rt; run.grants.len(), 1);
 }
 
 #[test]
@@ -49,6 +65,18 @@ fn a_run_is_reported(rt: HostRuntime) -> Result<(), Fail> {
         format!(in heap; "{printed}")?.as_str(),
         "site 2 holds after 7 steps"
     );
-    print_run(&rt, &broker, &roll)?;
+    Run {
+        broker,
+        grants: roll,
+    }
+    .print(&rt)?;
     Ok(())
+}
+
+// A run of three sites, the last of them holding.
+fn run_of_three_sites(memory: &mut [Grant]) -> Run<'_, SuzukiKasami> {
+    Run {
+        broker: Broker::new(SuzukiKasami::new(3)),
+        grants: Roll::new(memory),
+    }
 }

@@ -55,3 +55,20 @@ fn a_roll_tells_whether_it_is_empty(rt: HostRuntime) {
     assert_eq!(rt; roll.push(SECOND), Ok(()));
     assert!(rt; !roll.is_empty());
 }
+
+#[test]
+fn a_roll_shows_its_elements_in_order_and_no_free_place(rt: HostRuntime) {
+    let mut memory = [SECOND; 4];
+    let mut roll = Roll::new(&mut memory);
+    assert!(rt; roll.as_slice().is_empty());
+    assert_eq!(rt; roll.push(FIRST), Ok(()));
+    assert_eq!(rt; roll.push(SECOND), Ok(()));
+    assert_eq!(rt; roll.as_slice(), [FIRST, SECOND].as_slice());
+    assert_eq!(rt; roll.iter().next(), Some(&FIRST));
+    assert_eq!(rt; roll.iter().count(), 2);
+    let mut last = None;
+    for grant in &roll {
+        last = Some(*grant);
+    }
+    assert_eq!(rt; last, Some(SECOND));
+}

@@ -7,7 +7,7 @@ mod serving;
 
 use broker::state::Broker;
 use history::Grant;
-use manager::interface::Manager;
+use programs::Run;
 use ricart_agrawala::state::RicartAgrawala;
 use roll::list::Roll;
 use schedule::Schedule;
@@ -40,40 +40,12 @@ fn nest() -> Nest {
     Tie::new(pairs, RicartAgrawala::new(8), SuzukiKasami::new(2))
 }
 
-fn run(rt: &HostRuntime) -> anyhow::Result<()> {
-    let mut broker = Broker::new(nest());
-    let mut memory = [Grant { site: 0, waited: 0 }; 64];
-    let mut roll = Roll::new(&mut memory);
-    let mut schedule = Schedule::new(SEED);
-    serve(&mut broker, &mut roll, &mut schedule);
-    print_grants(rt, &roll)?;
-    print_totals(rt, &broker)
-}
-
-fn print_grants(rt: &HostRuntime, roll: &Roll<'_, Grant>) -> anyhow::Result<()> {
-    for place in 0..roll.len() {
-        if let Some(grant) = roll.get(place) {
-            let site = grant.site;
-            let waited = grant.waited;
-            println!(rt; "site {site} holds after {waited} steps")?;
-        }
-    }
-    Ok(())
-}
-
-fn print_totals<M: Manager>(rt: &HostRuntime, broker: &Broker<M>) -> anyhow::Result<()> {
-    let kind = M::KIND;
-    let sites = broker.sites();
-    let asks = broker.asks();
-    let frees = broker.frees();
-    let steps = broker.steps();
-    let toll = broker.toll();
-    let bound = toll.saturating_mul(asks.saturating_add(frees).saturating_add(1));
-    println!(rt; "kind {kind}, {sites} sites: asks {asks}, frees {frees}, steps {steps}")?;
-    println!(rt; "toll {toll}: at most {bound} steps")?;
-    Ok(())
-}
-
 fn main(rt: HostRuntime) -> anyhow::Result<()> {
-    run(&rt)
+    let mut memory = [Grant { site: 0, waited: 0 }; 64];
+    let mut run = Run {
+        broker: Broker::new(nest()),
+        grants: Roll::new(&mut memory),
+    };
+    serve(&mut run, Schedule::new(SEED));
+    Ok(run.print(&rt)?)
 }

@@ -16,8 +16,7 @@ pub fn number_within(text: &str, least: usize, most: usize) -> Option<usize>
     ensures is_what_the_text_spells { IfSome result (λ n. Spells text.now n) }
     ensures finds_what_the_text_spells { (n : ℕ) → Spells text.now n → least ≤ n → n ≤ most → result ≡ Some n }
 {
-    match text.parse::<usize>() {
-        Ok(number) if least <= number && number <= most => Some(number),
-        _ => None,
-    }
+    text.parse::<usize>()
+        .ok()
+        .filter(|number| (least..=most).contains(number))
 }

@@ -3,13 +3,14 @@ ghost use Rattle.std.specs.Prelude.{◌≡◌, Some};
 ghost use Rattle.programs.specs.Printed.{grant_in_words, most_steps, ReportOf};
 
 use crate::report::Report;
+use crate::run::Run;
 use broker::state::Broker;
 use history::Grant;
 use manager::interface::Manager;
 use roll::list::Roll;
 use std::{fmt, io};
 
-// A grant as the programs print it.
+// A grant as the programs print it. A type of its own, for its `Display`: the grant's own crate, of the core, gives it no words.
 #[derive(Clone, Copy)]
 pub struct PrintedGrant(pub Grant);
 
@@ -17,8 +18,7 @@ impl fmt::Display for PrintedGrant {
     ghost output = { λ g. Some (grant_in_words g.0.site g.0.waited) };
 
     fn fmt<W: fmt::Write>(&self, f: &mut fmt::Formatter<W>) -> fmt::Result {
-        let site = self.0.site;
-        let waited = self.0.waited;
+        let Grant { site, waited } = self.0;
         write!(f, "site {site} holds after {waited} steps")
     }
 }
@@ -48,17 +48,26 @@ impl Report {
 
 impl fmt::Display for Report {
     fn fmt<W: fmt::Write>(&self, f: &mut fmt::Formatter<W>) -> fmt::Result {
-        let kind = self.kind;
-        let sites = self.sites;
-        let asks = self.asks;
-        let frees = self.frees;
-        let steps = self.steps;
-        let toll = self.toll;
+        let Report {
+            kind,
+            sites,
+            asks,
+            frees,
+            steps,
+            toll,
+        } = *self;
         let most = self.most_steps();
         write!(
             f,
             "kind {kind}, {sites} sites: asks {asks}, frees {frees}, steps {steps}\ntoll {toll}: at most {most} steps"
         )
+    }
+}
+
+impl<'a, M: Manager> Run<'a, M> {
+    // Prints each grant, in order, and then the report on the broker.
+    pub fn print(&self, rt: &HostRuntime) -> io::Result<()> {
+        print_run(rt, &self.broker, &self.grants)
     }
 }
 
@@ -68,10 +77,8 @@ pub fn print_run<M: Manager>(
     broker: &Broker<M>,
     roll: &Roll<'_, Grant>,
 ) -> io::Result<()> {
-    for place in 0..roll.len() {
-        if let Some(grant) = roll.get(place) {
-            rt.println(PrintedGrant(grant))?;
-        }
+    for grant in roll {
+        rt.println(PrintedGrant(*grant))?;
     }
     rt.println(Report::of(broker))
 }

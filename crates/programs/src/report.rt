@@ -2,6 +2,7 @@
 
 #[derive(Clone, Copy)]
 pub struct Report {
+    // The manager's own letter, `Manager::KIND`: kinds are open, so there is no enum of them.
     pub kind: char,
     pub sites: usize,
     pub asks: u64,

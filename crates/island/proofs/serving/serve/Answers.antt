@@ -1,12 +1,11 @@
-use Rattle.broker.specs.Reading.{records_of}
-use Rattle.history.proofs.Every.{goes_nowhere, goes_onward, one_call}
+use Rattle.history.proofs.Every.{goes_onward}
 use Rattle.island.proofs.serving.serve.Goals as goal
 
-pub loop-init : goal.loop-init
-loop-init g c = goes_nowhere g.M.Manager g.met.M.Manager.laws (records_of c.args.broker.now)
-
+-- A round asks, drains and frees.
 pub loop-preserved : goal.loop-preserved
 loop-preserved g c =
     let kind = g.M.Manager in
     let laws = g.met.M.Manager.laws in
-    goes_onward kind laws (goes_onward kind laws (goes_onward kind laws c.loop.invariant c.ask_all.ensures.goes_on) (λ w. one_call kind laws (c.drain.ensures.is_one_call w).2)) c.free_holder.ensures.goes_on
+    let asked = goes_onward kind laws c.loop.invariant c.ask_all.ensures.goes_on_with_its_history in
+    let drained = goes_onward kind laws asked c.drain.ensures.goes_on_with_its_history in
+    goes_onward kind laws drained c.free_holder.ensures.goes_on_with_its_history

@@ -2,5 +2,5 @@ use Rattle.broker.specs.Reading.{records_of}
 use Rattle.history.specs.Histories.{GoesOn}
 use Rattle.nested.proofs.serving.serve.Given as goal
 
-abbrev pub invariant-loop : goal.invariant-loop
-invariant-loop g l = GoesOn g.M.Manager (records_of l.initial.broker) (records_of l.broker)
+abbrev pub invariant-loop-drawn : goal.invariant-loop-drawn
+invariant-loop-drawn g l = GoesOn g.M.Manager (records_of l.fn.run.broker) (records_of l.run.broker)

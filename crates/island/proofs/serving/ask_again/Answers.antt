@@ -1,9 +1,0 @@
-use Rattle.broker.specs.Reading.{records_of}
-use Rattle.history.proofs.Every.{goes_nowhere, one_call}
-use Rattle.island.proofs.serving.ask_again.Goals as goal
-
-pub returns-then-count-turns : goal.returns-then-count-turns
-returns-then-count-turns g c = record { goes_on = λ w. one_call g.M.Manager g.met.M.Manager.laws (c.ask.ensures.is_one_call w).1.performed }
-
-pub returns-else-count-turns : goal.returns-else-count-turns
-returns-else-count-turns g c = record { goes_on = goes_nowhere g.M.Manager g.met.M.Manager.laws (records_of c.args.broker.now) }
