@@ -1,8 +1,7 @@
--- The law of a decimal text: `decimal` of std keeps it, and no other text does. And the step by which digits are found.
-use Rattle.std.proofs.Common.{◌≡◌, ℕ, ◌+◌, ◌^◌, ◌<◌, List, [], ◌∷◌, reverse, length, get_or, take, set, decimal, sym, ap, ◌∙◌, subst, inl, inr, arith, rules}
+-- The law of a decimal text: `decimal` of std keeps it, and no other text does.
+use Rattle.std.proofs.Common.{◌≡◌, ℕ, ◌^◌, ◌<◌, List, length, get_or, decimal, sym, ap, ◌∙◌, subst, inl, inr, arith, rules}
 use Rattle.std.specs.Int.{IsInRange}
 use Rattle.std.proofs.lemmas.Fmt.{digits_decimal, digits_value-decimal, decimal_nonempty, decimal_digit, first_decimal, decimal-digits_value}
-use Rattle.std.proofs.lemmas.List.{reverse-append, take_more_set}
 use Rattle.std.proofs.lemmas.Str.Parse.{IsNumeralModel, numerals_by_fold, tells_by_index}
 use Rattle.std.proofs.lemmas.Bool.{cases_lt}
 use Rattle.lines.specs.Decimals.{DecimalOf, read_after}
@@ -29,7 +28,3 @@ pub decimal_of_law : (n : ℕ) (text : List ℕ) → n < 2 ^ 64 → DecimalOf n 
 decimal_of_law n text small law =
     let reads = law.reads_back in
     sym (decimal-digits_value own text law.digits_only law.has_a_digit law.no_leading_zero (rw reads small)) ∙ ap decimal reads
-
--- One more digit, found before those in the field.
-pub turned_more : (field : List ℕ) (count digit : ℕ) → count < length field → reverse (take (count + 1) (set field count digit)) ≡ digit ∷ reverse (take count field)
-turned_more field count digit room = ap reverse (take_more_set field count digit room) ∙ reverse-append (take count field) (digit ∷ [])

@@ -1,5 +1,5 @@
-pub mod Buffer
 pub mod Decimals
 pub mod Limits
 pub mod Texts
+pub mod Words
 pub mod Written

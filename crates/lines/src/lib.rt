@@ -2,7 +2,6 @@
 #![tactic(auto)]
 
 mod buffer;
-mod digits;
 pub mod refusal;
 mod writers;
 

@@ -1,13 +1,15 @@
 use Rattle.std.proofs.Common.{rules}
-use Rattle.std.proofs.lemmas.List.{flat_map_more, take_more, take_all}
-use Rattle.lines.specs.Texts.{line_of, spaced}
+use Rattle.std.proofs.lemmas.List.{take_all}
+use Rattle.std.proofs.lemmas.Str.{length-encode, len_utf8_bounds}
+use Rattle.lines.specs.Texts.{line_of}
 use Rattle.lines.proofs.writers.write_line.Goals as goal
 
--- One number on.
-pub loop-number-preserved : goal.loop-number-preserved
-loop-number-preserved c = search (rules, take_more, flat_map_more spaced)
+pub push-requires : goal.push-requires
+push-requires c = search (rules, length-encode, len_utf8_bounds)
 
--- All numbers are passed, and the line's end is added.
+pub loop-number-init : goal.loop-number-init
+loop-number-init c = search (rules, length-encode, len_utf8_bounds)
+
 pub returns : goal.returns
 unfolding line_of
 returns c = search (rules, take_all)
