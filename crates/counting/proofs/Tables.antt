@@ -1,8 +1,9 @@
 -- The laws of sums over a square table.
-use Rattle.std.proofs.Common.{◌≡◌, ℕ, ◌+◌, ◌*◌, ◌<◌, ◌≤◌, ◌&&◌, eqb, refl, ◌∙◌, arith}
+use Rattle.std.proofs.Common.{◌≡◌, ℕ, ◌+◌, ◌*◌, ◌<◌, ◌≤◌, ◌&&◌, eqb, refl, ◌∙◌, ap, arith}
 use Rattle.std.proofs.lemmas.Bool.{eq-eqb, ne_eqb, cond-true, cond-false, and_left, and_right, and_from}
+use Rattle.counting.specs.Sums.{sum}
 use Rattle.counting.specs.Tables.{row, total, before, upd2}
-use Rattle.counting.proofs.Sums.{sum_ext, sum_change, sum_at, sum_none, sum_most, sum_zero, sum_add}
+use Rattle.counting.proofs.Sums.{sum_ext, sum_change, sum_at, sum_none, sum_most, sum_zero, sum_add, sum_more}
 
 pub upd2_same : {A : Type 0} (f : ℕ → ℕ → A) (i j : ℕ) (v : A) → upd2 f i j v i j ≡ v
 upd2_same f i j v = cond-true (eqb i i && eqb j j) v (f i j) (and_from (eqb i i) (eqb j j) (eq-eqb i i refl) (eq-eqb j j refl))
@@ -50,3 +51,8 @@ total_none f n i j e hi hj =
 pub total_most : (f : ℕ → ℕ → ℕ) (n : ℕ) → ((i j : ℕ) → f i j ≤ 1) → total f n ≤ n * n
 total_most f n most =
     sum_most (row f n) n n (λ i h. omega (arith, sum_most (f i) 1 n (λ j k. most i j)))
+
+-- At the end of a row, what was passed is what comes before the next row.
+pub before_next_row : (f : ℕ → ℕ → ℕ) (n i j : ℕ) → j ≡ n → before f n (i + 1) 0 ≡ before f n i j
+before_next_row f n i j end =
+    omega (arith, sum_more (row f n) i, ap (sum (f i)) end)

@@ -1,6 +1,6 @@
 // Messages under way as a table, by sender and receiver: how many there are, and which has so many before it.
 use counting::stored::cell_or;
-use counting::table::{Spot, Table};
+use counting::table::{Coordinate, Spot, Table};
 use manager::interface::Manager;
 use manager::status::Status;
 use ricart_agrawala::state::RicartAgrawala;
@@ -14,6 +14,10 @@ fn requests_are_counted_and_found_by_sender_and_receiver(rt: HostRuntime) {
     assert_eq!(rt; manager.side(), 3);
     assert_eq!(rt; manager.cell(1, 2), 1);
     assert_eq!(rt; manager.cell(1, 1), 0);
+    let one = Coordinate { number: 1 };
+    let two = Coordinate { number: 2 };
+    assert_eq!(rt; manager.cell_at(one, two), 1);
+    assert_eq!(rt; manager.cell_at(one, one), 0);
     assert_eq!(rt; manager.row_total(1), 2);
     assert_eq!(rt; manager.row_total(0), 0);
     assert_eq!(rt; manager.total(), 2);
@@ -34,6 +38,10 @@ fn a_request_and_a_reply_may_be_under_way_between_two_sites(rt: HostRuntime) {
     assert_eq!(rt; manager.step(0), Ok(None));
     assert_eq!(rt; manager.ask(0), Ok(Status::Waiting));
     assert_eq!(rt; manager.cell(0, 1), 2);
+    let zero = Coordinate { number: 0 };
+    let one = Coordinate { number: 1 };
+    assert_eq!(rt; manager.cell_at(zero, one), 2);
+    assert_eq!(rt; manager.cell_at(one, zero), 0);
     assert_eq!(rt; manager.row_total(0), 3);
     assert_eq!(rt; manager.total(), 4);
     let reply = Spot {

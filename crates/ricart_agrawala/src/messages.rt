@@ -5,7 +5,7 @@ ghost use Rattle.ricart_rules.proofs.Facts.{messages_most};
 ghost use Rattle.ricart_agrawala.specs.Reading.{state_of};
 
 use crate::state::RicartAgrawala;
-use counting::table::Table;
+use counting::table::{Coordinate, Table};
 use ricart_rules::Stage;
 
 // Messages are numbered by sender, then by receiver, on each link the REQUEST before the REPLY.
@@ -22,6 +22,11 @@ impl Table for RicartAgrawala {
 
     fn cell(&self, sender: usize, receiver: usize) -> u64 {
         self.requests(sender, receiver) + self.replies(sender, receiver)
+    }
+
+    fn cell_at(&self, sender: Coordinate, receiver: Coordinate) -> u64 {
+        u64::from(self.stages[sender.number][receiver.number] == Stage::Requested)
+            + u64::from(self.stages[receiver.number][sender.number] == Stage::Replied)
     }
 }
 

@@ -5,7 +5,7 @@ ghost use Rattle.suzuki_rules.proofs.Facts.{requests_small};
 
 use crate::state::SuzukiKasami;
 use counting::stored::cell_or;
-use counting::table::Table;
+use counting::table::{Coordinate, Table};
 
 impl Table for SuzukiKasami {
     ghost cells = { λ m. requests (state_of m) };
@@ -18,6 +18,10 @@ impl Table for SuzukiKasami {
 
     fn cell(&self, at: usize, column: usize) -> u64 {
         u64::from(column < self.island.sites && cell_or(&self.requests, at, column, false))
+    }
+
+    fn cell_at(&self, at: Coordinate, column: Coordinate) -> u64 {
+        u64::from(column.number < self.island.sites && self.requests[at.number][column.number])
     }
 
     ghost bounds = { λ m. requests_small (state_of m) m.island.most };
