@@ -1,5 +1,5 @@
 -- What `any` answers when it goes through the numbers below n.
-use Rattle.std.proofs.Common.{◌≡◌, ℕ, zero, suc, ◌+◌, Bool, true, false, ◌||◌, ◌++◌, [], ◌∷◌, refl, ap, ◌∙◌, arith}
+use Rattle.std.proofs.Common.{◌≡◌, ℕ, zero, suc, Bool, true, false, ◌||◌, [], ◌∷◌, refl, ap, ◌∙◌, arith}
 use Rattle.std.specs.Fn.{Called}
 use Rattle.std.specs.Iterator.{ChecksAny}
 use Rattle.std.specs.List.{list_any, range_with_len}
@@ -10,10 +10,7 @@ use Rattle.std.specs.declared.ops.Range.{Range}
 use Rattle.std.proofs.iter.Yields.{nat_range_steps}
 use denote.Param.Members.{Mut}
 use Rattle.counting.specs.Tests.{any}
-
-range_more : (a n e : ℕ) → a + n ≡ e → range_with_len a (suc n) ≡ range_with_len a n ++ (e ∷ [])
-range_more a zero e q = ap (λ x. x ∷ []) (omega (arith, q))
-range_more a (suc n) e q = ap (λ xs. a ∷ xs) (range_more (a + 1) n e (omega (arith, q)))
+use Rattle.counting.proofs.Sums.{range_more}
 
 or_false : (a b : Bool) → (a || (b || false)) ≡ (a || b)
 or_false a true = refl

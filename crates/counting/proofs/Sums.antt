@@ -3,6 +3,7 @@ use Rattle.std.proofs.Common.{◌≡◌, ℕ, zero, suc, ◌+◌, ◌*◌, ◌<�
 use mir.Val.{bool_byte}
 use Rattle.std.proofs.lemmas.Bool.{eq-eqb, ne_eqb, cond-true, cond-false, cases_eq}
 use Rattle.std.proofs.lemmas.Bool.Decides.{nat_tests}
+use Rattle.std.specs.List.{range_with_len}
 use Rattle.counting.specs.Sums.{sum, one_if, upd, times}
 
 pub upd_same : {A : Type 0} (f : ℕ → A) (i : ℕ) (v : A) → upd f i v i ≡ v
@@ -116,3 +117,8 @@ no_repeats_fit xs n h once =
     let e : length xs ≡ sum (times xs) n = length_times xs n h in
     let b : sum (times xs) n ≤ sum (λ i. 1) n = sum_le (times xs) (λ i. 1) n (λ i p. once i) in
     omega (arith, sum_ones n)
+
+-- One more number of a range.
+pub range_more : (a n e : ℕ) → a + n ≡ e → range_with_len a (suc n) ≡ range_with_len a n ++ (e ∷ [])
+range_more a zero e q = ap (λ x. x ∷ []) (omega (arith, q))
+range_more a (suc n) e q = ap (λ xs. a ∷ xs) (range_more (a + 1) n e (omega (arith, q)))

@@ -1,9 +1,10 @@
 -- A free's search for the sites that wait: 16 places are enough for it.
-use Rattle.std.proofs.Common.{◌≡◌, ℕ, ◌<◌, ◌≤◌, Bool, true, false, cond, eqb, ltb, List, [], ◌∷◌, ◌++◌, length, refl, ap, ◌∙◌, arith}
+use Rattle.std.proofs.Common.{◌≡◌, ℕ, suc, ◌+◌, ◌-◌, ◌<◌, ◌≤◌, Bool, true, false, cond, eqb, ltb, List, [], ◌∷◌, ◌++◌, length, sym, refl, ap, ◌∙◌, arith}
 use Rattle.std.proofs.lemmas.Bool.{cond-true, eq-eqb, lt-ltb, ltb-false}
 use Rattle.std.proofs.lemmas.Bool.Decides.{nat_tests}
 use Rattle.counting.specs.Sums.{times, one_if}
-use Rattle.counting.proofs.Sums.{times_append}
+use Rattle.std.specs.List.{range_with_len}
+use Rattle.counting.proofs.Sums.{times_append, range_more}
 use Rattle.suzuki_rules.specs.Invariant.{Sound}
 use Rattle.suzuki_rules.specs.Rules.{order, enqueued, searched, token_after, rest}
 use Rattle.suzuki_rules.specs.State.{State, queued, wants}
@@ -18,13 +19,21 @@ either false true q p r new = new refl
 either false false q p r new = refl
 
 module _ (s : State) (i : ℕ) where
-  gathered_append : (q xs ys : List ℕ) → gathered s i q (xs ++ ys) ≡ gathered s i (gathered s i q xs) ys
+  pub gathered_append : (q xs ys : List ℕ) → gathered s i q (xs ++ ys) ≡ gathered s i (gathered s i q xs) ys
   gathered_append q [] ys = refl
   gathered_append q (j ∷ xs) ys = gathered_append (noted s i q j) xs ys
 
-  -- One more site after those gathered so far.
+  -- One more site after those gathered so far,
   pub gathered_more : (q xs : List ℕ) (j : ℕ) → gathered s i q (xs ++ (j ∷ [])) ≡ noted s i (gathered s i q xs) j
   gathered_more q xs j = gathered_append q xs (j ∷ [])
+
+  -- and the next one of a range.
+  pub gathered_next : (q : List ℕ) (from j : ℕ) → from ≤ j → noted s i (gathered s i q (range_with_len from (j - from))) j ≡ gathered s i q (range_with_len from (j + 1 - from))
+  gathered_next q from j below =
+      let more : j + 1 - from ≡ suc (j - from) = omega arith in
+      sym (gathered_more q (range_with_len from (j - from)) j)
+      ∙ ap (gathered s i q) (sym (range_more from (j - from) j (omega arith)))
+      ∙ ap (λ n. gathered s i q (range_with_len from n)) (sym more)
 
   noted_site : (n : ℕ) (q : List ℕ) (j : ℕ) → AllBelow q n → j < n → AllBelow (noted s i q j) n
   noted_site n q j old near = λ x h. grind (arith, nat_tests, times_append q (j ∷ []) x, old x)

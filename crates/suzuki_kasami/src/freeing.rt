@@ -1,5 +1,6 @@
 // What a free does.
-ghost use Rattle.std.specs.Prelude.{◌≡◌, ◌<◌, Some, None};
+ghost use Rattle.std.specs.Prelude.{◌≡◌, ◌-◌, ◌<◌, Some, None};
+ghost use Rattle.std.specs.List.{range_with_len};
 ghost use Rattle.manager.specs.Meaning.{limit};
 ghost use Rattle.suzuki_rules.specs.Invariant.{Sound};
 ghost use Rattle.suzuki_rules.specs.Rules.{freed, order};
@@ -40,16 +41,26 @@ impl SuzukiKasami {
         requires { site < self.now.island.sites }
         ensures goes_through_all_in_order { queue.new.items ≡ gathered (state_of self.now) site queue.old.items (order site self.now.island.sites) }
     {
-        for other in (site + 1..self.island.sites).chain(0..site) {
+        self.search_among(queue, site, site + 1, self.island.sites);
+        self.search_among(queue, site, 0, site);
+    }
+
+    // Queues those that the site knows to wait, of the sites from one number on and below another. Called twice in place of one loop over
+    // a chain of two ranges, which asks at each site in which range it is.
+    fn search_among(&self, queue: &mut ArrayVec<usize, 16>, site: usize, from: usize, to: usize)
+        ensures goes_through_them_in_order { queue.new.items ≡ gathered (state_of self.now) site queue.old.items (range_with_len from (to - from)) }
+    {
+        for other in from..to {
             self.enqueue(queue, site, other);
         }
     }
 
-    // Queues the other site, unless the queue is full, has it already, or it is not known to wait.
+    // Queues the other site, if it is known to wait, unless the queue is full or has it already. Whether it waits is asked first: of most
+    // sites it is not known.
     fn enqueue(&self, queue: &mut ArrayVec<usize, 16>, site: usize, other: usize)
         ensures notes_the_other { queue.new.items ≡ noted (state_of self.now) site queue.old.items other }
     {
-        if !queue.is_full() && !queue.contains(&other) && self.wants(site, other) {
+        if self.wants(site, other) && !queue.is_full() && !queue.contains(&other) {
             queue.push(other);
         }
     }

@@ -38,7 +38,9 @@ impl SuzukiKasami {
     pub(crate) fn wants(&self, site: usize, other: usize) -> bool
         ensures { result ≡ wants (state_of self.now) site other }
     {
-        self.known_at(site, other).checked_sub(1) == Some(self.served_at(other))
+        self.known_at(site, other)
+            .checked_sub(1)
+            .is_some_and(|last| last == self.served_at(other))
     }
 
     // Does the site know another to wait?

@@ -1,13 +1,14 @@
 -- Parking leads to a sound state that is as a parked manager has to be.
-use Rattle.std.proofs.Common.{◌≡◌, ℕ, ◌<◌, ◌≤◌, refl, arith}
+use Rattle.std.proofs.Common.{◌≡◌, ℕ, ◌-◌, ◌<◌, ◌≤◌, refl, arith}
 use Rattle.std.proofs.lemmas.Bool.Decides.{nat_tests}
 use Rattle.counting.proofs.Sums.{upd_same, upd_other, sum_zero}
+use Rattle.counting.specs.Sizes.{fitted}
 use Rattle.counting.specs.Tables.{total, row}
 use Rattle.manager.specs.Effects.{Parked}
 use Rattle.manager.specs.declared.status.Status.TheVariants.{Idle, Holding}
 use Rattle.suzuki_rules.specs.Invariant.{Sound}
 use Rattle.suzuki_rules.specs.Reading.{meaning_of}
-use Rattle.suzuki_rules.specs.Rules.{fresh, parked, requests}
+use Rattle.suzuki_rules.specs.Rules.{fresh, made, parked, requests}
 use Rattle.suzuki_rules.specs.State.{State}
 
 module _ (n g : ℕ) (low : 2 ≤ n) (high : n ≤ 16) (within : g < n) where
@@ -37,6 +38,9 @@ module _ (n g : ℕ) (low : 2 ≤ n) (high : n ≤ 16) (within : g < n) where
 
   pub fresh_quiet : total (requests (fresh n g)) n ≡ 0
   fresh_quiet = sum_zero (row (requests (fresh n g)) n) n (λ i l. sum_zero (requests (fresh n g) i) n (λ j k. refl))
+
+pub made_sound : (n : ℕ) → Sound (made n)
+made_sound n = fresh_sound (fitted n) (fitted n - 1) (omega arith) (omega arith) (omega arith)
 
 pub park_lawful : (s : State) (g : ℕ) → 2 ≤ s.sites → s.sites ≤ 16 → g < s.sites → Sound (parked s g) × Parked (meaning_of s) g (meaning_of (parked s g))
 park_lawful s g low high within = (
