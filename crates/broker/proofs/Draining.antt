@@ -1,7 +1,7 @@
 -- A drain half way: what it has done so far, and how what it does from here on makes the whole.
-use Rattle.std.proofs.Common.{◌≡◌, ℕ, ◌+◌, ◌-◌, ◌<◌, Bool, true, false, eqb, ltb, List, [], ◌∷◌, ◌++◌}
+use Rattle.std.proofs.Common.{◌≡◌, ℕ, ◌+◌, ◌-◌, ◌<◌, Bool, true, false, not, eqb, ltb, List, [], ◌∷◌, ◌++◌}
 use Rattle.std.proofs.Common.{length, set, Some, None, Ok, Option, sym, refl, ap, ◌∙◌, append_assoc, append-nil, arith, length-set}
-use Rattle.std.proofs.lemmas.Bool.{cond-true, cond-false, ltb-true, ltb-false, eq-eqb, ne_eqb, and_from, and_right}
+use Rattle.std.proofs.lemmas.Bool.{cond-true, cond-false, lt-ltb, eq-eqb, ne_eqb, eqb-true, eqb-false, and_from, and_right}
 use Rattle.std.proofs.lemmas.Option.{none-some}
 use Rattle.std.specs.Bool.{then_some}
 use Rattle.manager.specs.Kinds.{Kind, Obeys}
@@ -29,6 +29,14 @@ laid_length : {T : Type 0} (memory : List T) (k : ℕ) (xs : List T) → length 
 laid_length memory k [] = refl
 laid_length memory k (x ∷ xs) = laid_length (set memory k x) (k + 1) xs ∙ length-set memory k x
 
+-- What the answer whether nothing is under way tells of the number.
+module _ (quiet : Bool) (things : ℕ) (tells : quiet ≡ eqb things 0) where
+  pub none_under_way : quiet ≡ true → things ≡ 0
+  none_under_way is = eqb-true things 0 (sym tells ∙ is)
+
+  pub some_under_way : quiet ≡ false → 0 < things
+  some_under_way is = omega (arith, eqb-false things 0 (sym tells ∙ is))
+
 -- What is added to a roll takes up its room.
 pub room_left : {T : Type 0} (a b : Roll T) (xs : List T) → Rolled a b xs → room_of b ≡ room_of a - length xs
 room_left a b xs r =
@@ -50,16 +58,13 @@ module _ {S : Type 0} (kind : Kind S) where
       (and_right (ltb 0 (under kind b).underway) (eqb left 0) (ne_eqb left 0 some))
 
   -- How a drain ends: at its bound, whether or not something is still under way, or with a step refused.
-  pub at_bound : (b : Records S) (left room things : ℕ) → left ≡ 0 → things ≡ (under kind b).underway →
-      Drained kind b left room 0 [] (then_some (ltb 0 things) LimitReached) b
-  at_bound b left room things used shown = go (ltb 0 things) (ap (ltb 0) (sym shown))
-    where
-      go : (busy : Bool) → ltb 0 (under kind b).underway ≡ busy → Drained kind b left room 0 [] (then_some busy LimitReached) b
-      go true p =
-          let stops = and_from (ltb 0 (under kind b).underway) (eqb left 0) p (eq-eqb left 0 used) in
-          stopped LimitReached (ltb-true 0 (under kind b).underway p)
-          (cond-true (due LimitReached (under kind b) 0 left) (Some LimitReached) (step_refusal (under kind b) 0 room) stops)
-      go false p = let above = ltb-false 0 (under kind b).underway p in finished (omega arith)
+  pub at_bound : (b : Records S) (left room : ℕ) (quiet : Bool) → left ≡ 0 → quiet ≡ eqb (under kind b).underway 0 →
+      Drained kind b left room 0 [] (then_some (not quiet) LimitReached) b
+  at_bound b left room true used tells = finished (none_under_way true (under kind b).underway tells refl)
+  at_bound b left room false used tells =
+      let busy = some_under_way false (under kind b).underway tells refl in
+      let stops = and_from (ltb 0 (under kind b).underway) (eqb left 0) (lt-ltb 0 (under kind b).underway busy) (eq-eqb left 0 used) in
+      stopped LimitReached busy (cond-true (due LimitReached (under kind b) 0 left) (Some LimitReached) (step_refusal (under kind b) 0 room) stops)
 
   pub at_refusal : (b : Records S) (left room : ℕ) (e : Refusal) → 0 < (under kind b).underway → 0 < left → step_refusal (under kind b) 0 room ≡ Some e →
       Drained kind b left room 0 [] (Some e) b

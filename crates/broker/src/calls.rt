@@ -68,7 +68,7 @@ impl<M: Manager> Broker<M> {
         let status = self.manager.status(site)?;
         check_age(self.totals.age())?;
         check_idle(status)?;
-        check_room(roll)
+        check_room(roll.room())
     }
 
     // What refuses a free: tried before the manager is called, so that a worn-out broker counts no more.
@@ -89,15 +89,16 @@ impl<M: Manager> Broker<M> {
     {
         check_age(self.totals.age())?;
         check_thing(thing, self.manager.underway())?;
-        check_room(roll)
+        let places = roll.room();
+        check_room(places)
     }
 }
 
 // A roll with no place free takes no grant.
-fn check_room(roll: &Roll<'_, Grant>) -> Result<(), Refusal>
-    ensures refuses_a_full_roll { result ≡ refuse_if (room_of roll.now == 0) RollFull }
+fn check_room(places: usize) -> Result<(), Refusal>
+    ensures refuses_a_full_roll { result ≡ refuse_if (places == 0) RollFull }
 {
-    if roll.room() == 0 {
+    if places == 0 {
         return Err(Refusal::RollFull);
     }
     Ok(())

@@ -1,5 +1,5 @@
 // A drain: steps in a row until nothing is under way, or until it is stopped.
-ghost use Rattle.std.specs.Prelude.{◌≡◌, List};
+ghost use Rattle.std.specs.Prelude.{◌≡◌, List, ◌==◌};
 ghost use Rattle.roll.specs.Contents.{room_of};
 ghost use Rattle.history.specs.Calls.{Drained, drain as drain_call};
 ghost use Rattle.history.specs.Histories.{Performed};
@@ -20,15 +20,22 @@ impl<M: Manager> Broker<M> {
         ensures is_one_call { Well M.Manager (records_of self.old) → (grants : List Grant) × Drained M.Manager (records_of self.old) bound (room_of roll.old) result.steps grants result.stopped (records_of self.new) × Performed M.Manager (records_of self.old) (drain_call bound (room_of roll.old)) grants (records_of self.new) × Rolled roll.old roll.new grants }
     {
         for steps in 0..bound {
-            if self.manager.underway() == 0 {
+            if self.is_quiet() {
                 return report(steps, None);
             }
             if let Err(refusal) = self.step(0, roll) {
                 return report(steps, Some(refusal));
             }
         }
-        let busy = self.manager.underway() > 0;
+        let busy = !self.is_quiet();
         report(bound, busy.then_some(Refusal::LimitReached))
+    }
+
+    // Is nothing under way?
+    fn is_quiet(&self) -> bool
+        ensures tells_whether_nothing_is_under_way { result ≡ ((M.Manager.meaning self.now.manager).underway == 0) }
+    {
+        self.manager.underway() == 0
     }
 }
 
